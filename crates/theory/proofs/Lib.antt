@@ -1,0 +1,17 @@
+pub mod Cdiv
+pub mod Lists
+pub mod Demand
+pub mod Points
+pub mod Next
+pub mod Smallest
+pub mod Answer
+pub mod Suffice
+pub mod Search
+pub mod Tables
+pub mod Levels
+pub mod Places
+pub mod Ticks
+pub mod OnTime
+pub mod Late
+pub mod Plain
+pub mod Exact

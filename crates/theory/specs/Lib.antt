@@ -1,0 +1,6 @@
+pub mod Lists
+pub mod Tasks
+pub mod Test
+pub mod Ticks
+pub mod Theorems
+pub mod Search
