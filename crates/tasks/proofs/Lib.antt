@@ -1,0 +1,4 @@
+pub mod Levels
+pub mod Loads
+pub mod Rows
+pub mod OneRow

@@ -1,0 +1,4 @@
+pub mod Levels
+pub mod Ranges
+pub mod Tables
+pub mod Loads

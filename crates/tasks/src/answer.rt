@@ -1,0 +1,8 @@
+// What the level test answers for a row.
+
+// The smallest point of the row at which the demand fits, and the demand there.
+#[derive(Clone, Copy)]
+pub struct Answer {
+    pub point: u32,
+    pub demand: u64,
+}
