@@ -2,3 +2,4 @@ pub mod Levels
 pub mod Ranges
 pub mod Tables
 pub mod Loads
+pub mod Admission

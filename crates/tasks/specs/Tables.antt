@@ -34,6 +34,15 @@ task-of t = numbers (t .period) (t .deadline) (t .work)
 abbrev pub pair : Answer → ℕ × ℕ
 pair a = (a .point, a .demand)
 
+-- The level that a search found, 0 where it found none, and the answers there.
+abbrev pub found-level : Option (ℕ × List (ℕ × ℕ)) → ℕ
+found-level None = 0
+found-level (Some x) = x .0
+
+abbrev pub found-answers : Option (ℕ × List (ℕ × ℕ)) → List (ℕ × ℕ)
+found-answers None = []
+found-answers (Some x) = x .1
+
 -- The levels of a list, in their order.
 abbrev pub listed : LevelList → List ℕ
 listed l = vec-items (l .levels)
