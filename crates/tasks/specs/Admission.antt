@@ -1,14 +1,15 @@
 -- Admission: what it answers, and what the answer means for the jobs.
-use mathlib.Core.Bool.{Bool, cond, _||_}
+use mathlib.Core.Bool.{Bool, cond, _&&_, _||_}
 use mathlib.Core.List.{List, [], _∷_, map}
 use mathlib.Core.Logic.{_⊎_}
 use mathlib.Core.Path.{_≡_}
-use Prim.Native.Nat.{ℕ, _<_}
-use lib.Dec.{eqb}
-use lib.ListN.{length, take}
+use Prim.Native.Nat.{ℕ, _-_, _<_}
+use lib.Dec.{eqb, leb}
+use lib.ListN.{length, getD, take}
 use Rattle.std.specs.Of.Vec.{vec-items, vec-len}
 use Rattle.std.specs.Options.{okOr}
-use Rattle.std.specs.declared.option.Option.the-variants.{Some}
+use Rattle.std.specs.declared.option.Option.{Option}
+use Rattle.std.specs.declared.option.Option.the-variants.{Some, None}
 use Rattle.std.specs.declared.result.Result.{Result}
 use Rattle.std.specs.declared.result.Result.the-variants.{Ok, Err}
 use Rattle.fault.specs.declared.Fault.{Fault}
@@ -24,7 +25,7 @@ use Rattle.tasks.specs.declared.back.Back.{Back}
 use Rattle.tasks.specs.declared.plan.AdmittedPlan.{AdmittedPlan}
 use Rattle.tasks.specs.declared.table.OpenTable.{OpenTable}
 use Rattle.tasks.specs.Levels.{top}
-use Rattle.tasks.specs.Tables.{task-of, pair, listed}
+use Rattle.tasks.specs.Tables.{task-of, point-demand, listed}
 
 -- The levels, the tasks and the answers of a plan, in their order.
 abbrev pub plan-levels : AdmittedPlan → List ℕ
@@ -34,7 +35,11 @@ abbrev pub plan-tasks : AdmittedPlan → List Task
 plan-tasks p = map task-of (vec-items (p .tasks))
 
 abbrev pub plan-answers : AdmittedPlan → List (ℕ × ℕ)
-plan-answers p = map pair (take (vec-len (p .tasks)) (p .answers))
+plan-answers p = map point-demand (take (vec-len (p .tasks)) (p .answers))
+
+-- The answer of a row, from row 1 on; none where there is no such row.
+abbrev pub at-row : List (ℕ × ℕ) → ℕ → Option (ℕ × ℕ)
+at-row found row = cond (leb 1 row && leb row (length found)) (Some (getD found (row - 1) (0, 0))) None
 
 -- Whether there are no levels, or no tasks.
 abbrev pub some-empty : List ℕ → List Task → Bool

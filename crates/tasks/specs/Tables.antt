@@ -31,8 +31,8 @@ abbrev pub task-of : Task → theory.Task
 task-of t = numbers (t .period) (t .deadline) (t .work)
 
 -- An answer of the code, by its point and its demand.
-abbrev pub pair : Answer → ℕ × ℕ
-pair a = (a .point, a .demand)
+abbrev pub point-demand : Answer → ℕ × ℕ
+point-demand a = (a .point, a .demand)
 
 -- The level that a search found, 0 where it found none, and the answers there.
 abbrev pub found-level : Option (ℕ × List (ℕ × ℕ)) → ℕ

@@ -1,18 +1,19 @@
-// Admission: the test by reference first, and then a making that cannot refuse.
+// Admission: the search by reference first, and then a making that cannot refuse.
 ghost use Prim.Native.Nat.{_≤_};
 ghost use lib.ListN.{length, take};
 ghost use mathlib.Core.List.{map};
 ghost use mathlib.Core.Logic.{_↔_};
 ghost use mathlib.Core.Path.{_≡_};
 ghost use Rattle.std.specs.Of.Vec.{vec-items, vec-len};
+ghost use Rattle.std.specs.Options.{mapped};
 ghost use Rattle.std.specs.Results.{Cases};
 ghost use Rattle.std.specs.Vec.{made};
 ghost use Rattle.std.specs.declared.option.Option.the-variants.{Some};
 ghost use Rattle.std.specs.declared.result.Result.the-variants.{Ok, Err};
 ghost use Rattle.fault.specs.declared.Refusal.the-variants.{BadCount, NoLevelPasses};
 ghost use Rattle.theory.specs.Test.{lowest};
-ghost use Rattle.tasks.specs.Admission.{plan-levels, plan-tasks, plan-answers, some-empty, admission, Lowest-in-time, Some-empty, Every-level-late, Refused-by};
-ghost use Rattle.tasks.specs.Tables.{pair, task-of, levels-of, tasks-of};
+ghost use Rattle.tasks.specs.Admission.{plan-levels, plan-tasks, plan-answers, at-row, some-empty, admission, Lowest-in-time, Some-empty, Every-level-late, Refused-by};
+ghost use Rattle.tasks.specs.Tables.{point-demand, task-of, levels-of, tasks-of};
 use crate::answer::Answer;
 use crate::back::Back;
 use crate::plan::AdmittedPlan;
@@ -31,10 +32,10 @@ impl OpenTable {
     }
 
     // The lowest listed level that passes, with the answers of the rows there.
-    fn test(&self, answers: &mut [Answer]) -> Result<u32, Fault>
+    fn search(&self, answers: &mut [Answer]) -> Result<u32, Fault>
         requires room { ⌜ 32 ≤ length (now answers) ⌝ }
         ensures { λ r. ⌜ Cases r
-            (λ f. (1 ≤ f) × (admission (levels-of (now (self .entry))) (tasks-of (now (self .entry))) ≡ Ok (f, map pair (take (vec-len (now (self .entry) .tasks)) (now (answers .exit))))) × (lowest (levels-of (now (self .entry))) (tasks-of (now (self .entry))) ≡ Some (f, map pair (take (vec-len (now (self .entry) .tasks)) (now (answers .exit))))))
+            (λ f. (1 ≤ f) × (admission (levels-of (now (self .entry))) (tasks-of (now (self .entry))) ≡ Ok (f, map point-demand (take (vec-len (now (self .entry) .tasks)) (now (answers .exit))))) × (lowest (levels-of (now (self .entry))) (tasks-of (now (self .entry))) ≡ Some (f, map point-demand (take (vec-len (now (self .entry) .tasks)) (now (answers .exit))))))
             (λ e. admission (levels-of (now (self .entry))) (tasks-of (now (self .entry))) ≡ Err e) ⌝ }
     {
         if self.some_empty() {
@@ -46,10 +47,11 @@ impl OpenTable {
         }
     }
 
-    // The plan at a level that the test found, with its answers.
+    // The plan at a level that the search found, with its answers.
     fn at_level(self, level: u32, answers: [Answer; 32]) -> AdmittedPlan
+        requires room { ⌜ 32 ≤ length answers ⌝ }
         requires some { ⌜ 1 ≤ level ⌝ }
-        requires found { ⌜ lowest (levels-of self) (tasks-of self) ≡ Some (level, map pair (take (vec-len (self .tasks)) answers)) ⌝ }
+        requires found { ⌜ lowest (levels-of self) (tasks-of self) ≡ Some (level, map point-demand (take (vec-len (self .tasks)) answers)) ⌝ }
         ensures { λ p. ⌜ (p .levels ≡ self .levels) × (p .tasks ≡ self .tasks) × (p .level ≡ level) × (p .answers ≡ answers) ⌝ }
     {
         let OpenTable { levels, tasks } = self;
@@ -74,7 +76,7 @@ impl OpenTable {
             point: 0,
             demand: 0,
         }; 32];
-        match self.test(&mut answers) {
+        match self.search(&mut answers) {
             Ok(level) => Ok(self.at_level(level, answers)),
             Err(fault) => Err(Back { fault, given: self }),
         }
@@ -105,8 +107,18 @@ impl AdmittedPlan {
 
     // The answers, that of row 1 first.
     pub fn answers(&self) -> &[Answer]
-        ensures { λ r. ⌜ map pair (now r) ≡ plan-answers (now (self .entry)) ⌝ }
+        ensures { λ r. ⌜ map point-demand (now r) ≡ plan-answers (now (self .entry)) ⌝ }
     {
         &self.answers[0..self.tasks.len()]
+    }
+
+    // The answer of a row, from row 1 on; none where there is no such row.
+    pub fn answer(&self, row: usize) -> Option<Answer>
+        ensures { λ r. ⌜ mapped point-demand r ≡ at-row (plan-answers (now (self .entry))) row ⌝ }
+    {
+        if row < 1 || row > self.tasks.len() {
+            return None;
+        }
+        Some(self.answers[row - 1])
     }
 }

@@ -1,4 +1,4 @@
-// What the level test answers for a row.
+// What is answered for a row at a level.
 
 // The smallest point of the row at which the demand fits, and the demand there.
 #[derive(Clone, Copy)]

@@ -1,4 +1,4 @@
-// Tables of periodic tasks and speed levels, the level test, and admission at the lowest level that keeps every deadline.
+// Tables of periodic tasks and speed levels, and admission at the lowest level that keeps every deadline.
 mod adding;
 mod admission;
 pub mod answer;

@@ -1,11 +1,11 @@
 // A plan that takes no rows, and whose level is the lowest that passes.
 ghost use Prim.Native.Nat.{_≤_};
-ghost use lib.ListN.{take};
+ghost use lib.ListN.{length, take};
 ghost use mathlib.Core.List.{map};
 ghost use mathlib.Core.Path.{_≡_};
 ghost use Rattle.std.specs.Of.Vec.{vec-items, vec-len};
 ghost use Rattle.theory.specs.Test.{lowest};
-ghost use Rattle.tasks.specs.Tables.{task-of, pair, listed, found-level, found-answers};
+ghost use Rattle.tasks.specs.Tables.{task-of, point-demand, listed, found-level, found-answers};
 use crate::answer::Answer;
 use crate::level_list::LevelList;
 use crate::task::Task;
@@ -18,7 +18,8 @@ pub struct AdmittedPlan {
     pub(crate) level: u32,
     pub(crate) answers: [Answer; 32],
     ghost few: { vec-len tasks ≤ 32 },
+    ghost room: { 32 ≤ length answers },
     ghost some: { 1 ≤ level },
     ghost lowest_passing: { found-level (lowest (listed levels) (map task-of (vec-items tasks))) ≡ level },
-    ghost answered: { found-answers (lowest (listed levels) (map task-of (vec-items tasks))) ≡ map pair (take (vec-len tasks) answers) },
+    ghost answered: { found-answers (lowest (listed levels) (map task-of (vec-items tasks))) ≡ map point-demand (take (vec-len tasks) answers) },
 }

@@ -1,4 +1,4 @@
-// The level test: the first listed level at which every row passes.
+// The search for the first listed level at which every row passes.
 ghost use Prim.Native.Nat.{ℕ, _+_, _<_, _≤_, _^_};
 ghost use lib.ListN.{length, getD, take};
 ghost use mathlib.Core.Bool.{true};
@@ -10,7 +10,7 @@ ghost use Rattle.theory.specs.Tasks.{cdiv, cost, no-task};
 ghost use Rattle.theory.specs.Test.{lowest, first-failing};
 ghost use Rattle.tasks.specs.Levels.{ascending, top};
 ghost use Rattle.tasks.specs.Loads.{asked, next, Load-of, no-load};
-ghost use Rattle.tasks.specs.Tables.{task-of, pair};
+ghost use Rattle.tasks.specs.Tables.{task-of, point-demand};
 use crate::answer::Answer;
 use crate::load::Load;
 use crate::task::Task;
@@ -81,7 +81,7 @@ pub(crate) fn lowest_level(
     requires few { ⌜ length (now tasks) ≤ 32 ⌝ }
     requires room { ⌜ length (now tasks) ≤ length (now answers) ⌝ }
     ensures { λ r. ⌜ Cases r
-        (λ f. lowest (now (levels .entry)) (map task-of (now (tasks .entry))) ≡ Some (f, map pair (take (length (now (tasks .entry))) (now (answers .exit)))))
+        (λ f. lowest (now (levels .entry)) (map task-of (now (tasks .entry))) ≡ Some (f, map point-demand (take (length (now (tasks .entry))) (now (answers .exit)))))
         (λ row. (lowest (now (levels .entry)) (map task-of (now (tasks .entry))) ≡ None) × (row ≡ first-failing (top (now (levels .entry))) (map task-of (now (tasks .entry))))) ⌝ }
 {
     let mut failed = 0;

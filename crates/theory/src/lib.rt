@@ -22,15 +22,15 @@ pub fn never_overwritten() -> u8
     0
 }
 
-// The test refuses no more than it must: where the demand of a row does not fit, the plain run has a late job.
+// No more is refused than must be: where the demand of a row does not fit, the plain run has a late job.
 pub fn must_be_late() -> u8
     ensures { λ _. ⌜ Must-be-late ⌝ }
 {
     0
 }
 
-// The test passes just the tables that are never late from any start, and refuses just those whose plain run is late.
-pub fn test_is_exact() -> u8
+// Just the tables pass that are never late from any start, and just those are refused whose plain run is late.
+pub fn refuses_exactly() -> u8
     ensures { λ _. ⌜ Test-is-exact ⌝ }
 {
     0

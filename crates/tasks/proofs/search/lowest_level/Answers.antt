@@ -19,7 +19,7 @@ use Rattle.theory.proofs.Search.{exhausted}
 use Rattle.theory.proofs.Tables.{Answered, all-answered, first-fails}
 use Rattle.tasks.specs.declared.answer.Answer.{Answer}
 use Rattle.tasks.specs.Loads.{asked, next, Load-of, no-load}
-use Rattle.tasks.specs.Tables.{task-of, pair}
+use Rattle.tasks.specs.Tables.{task-of, point-demand}
 use Rattle.tasks.proofs.Levels.{level-at}
 use Rattle.tasks.proofs.OneRow.{Begins, Stepped, valid-task, valid-tasks, valid-front, begins-first, begins-next, stepped-at}
 use Rattle.tasks.proofs.Rows.{row-is}
@@ -98,19 +98,19 @@ rows-again c =
     let s = step (need.at·rows-again c .After-next-point-at) in
     let row = row-is tasks i x (c .rows-test .taken) (c .index-tasks-i .is) in
     let long = length-map tasks task-of in
-    let wide = length-map (c .rows .answers) pair in
-    let here : answer level (take i ts) (getD ts i no-task) ≡ Some (pair a) = ap (answer level (take i ts)) row ∙ s .ends (omega arith) in
+    let wide = length-map (c .rows .answers) point-demand in
+    let here : answer level (take i ts) (getD ts i no-task) ≡ Some (point-demand a) = ap (answer level (take i ts)) row ∙ s .ends (omega arith) in
     let old = c .rows .answers in
-    let after : map pair (set old i a) ≡ set (map pair old) i (pair a) = map-set pair old i a in
+    let after : map point-demand (set old i a) ≡ set (map point-demand old) i (point-demand a) = map-set point-demand old i a in
     let Good : List (ℕ × ℕ) → ℕ → Type 0 = λ found k. answer level (take k ts) (getD ts k no-task) ≡ Some (getD found k (0, 0)) in (
       c .next-point-at .ensures .bound,
       omega (arith, length-set old i a),
       subst (λ (found : List (ℕ × ℕ)). Answered level ts (i + 1) found) (sym after)
-          (below-more (Good (set (map pair old) i (pair a))) i
+          (below-more (Good (set (map point-demand old) i (point-demand a))) i
           (λ k h.
           let ne : k ≢ i = omega arith in
-          c .rows .inv .2 k h ∙ ap Some (sym (getD-set-other (map pair old) i k (pair a) (0, 0) ne)))
-          (here ∙ ap Some (sym (getD-set-same (map pair old) i (pair a) (0, 0) (omega arith))))),
+          c .rows .inv .2 k h ∙ ap Some (sym (getD-set-other (map point-demand old) i k (point-demand a) (0, 0) ne)))
+          (here ∙ ap Some (sym (getD-set-same (map point-demand old) i (point-demand a) (0, 0) (omega arith))))),
       begins-next level ts (c .loads-at-loads .result) i (f .0) (valid-tasks tasks) (omega arith) (omega arith) (λ k h. c .loads-at-loads .ensures k (omega arith))
           (a .point) (a .demand) here,
     )
@@ -130,7 +130,7 @@ levels-again c =
     let none : None-below level (take i ts) (getD ts i no-task) (c .points .from) =
     subst (λ (t : theory.Task). None-below level (take i ts) t (c .points .from)) (sym row) (c .points .inv .1) in
     let past : getD ts i no-task .deadline < c .points .from = omega (arith, ap (λ (t : theory.Task). t .deadline) row) in
-    let fails = first-fails level ts i (map pair (c .rows .answers)) (omega arith) (c .rows .inv .2) (exhausted level (take i ts) (getD ts i no-task) (c .points .from) all none past) in
+    let fails = first-fails level ts i (map point-demand (c .rows .answers)) (omega arith) (c .rows .inv .2) (exhausted level (take i ts) (getD ts i no-task) (c .points .from) all none past) in
     let more = lowest-more levels n level ts (c .levels-test .taken) (getD-default levels n 0 level (c .levels-test .taken)) in
     let back : n + 1 - 1 ≡ n = omega arith in (
       omega arith,
@@ -147,12 +147,12 @@ returns-in-levels c =
     let level = getD levels n 0 in
     let long = length-map tasks task-of in
     let size = length tasks in
-    let found = map pair (take size (c .rows .answers)) in
-    let wide = length-map (take size (c .rows .answers)) pair in
+    let found = map point-demand (take size (c .rows .answers)) in
+    let wide = length-map (take size (c .rows .answers)) point-demand in
     let cut = length-take-le size (c .rows .answers) (omega arith) in
     let end : c .rows .i ≡ length ts = omega arith in
     let done : Answered level ts (length ts) found = λ k h.
-    c .rows .inv .2 k (omega arith) ∙ ap Some (sym (getD-take size (map pair (c .rows .answers)) k (0, 0) (omega arith)) ∙ ap (λ l. getD l k (0, 0)) (take-map pair size (c .rows .answers))) in
+    c .rows .inv .2 k (omega arith) ∙ ap Some (sym (getD-take size (map point-demand (c .rows .answers)) k (0, 0) (omega arith)) ∙ ap (λ l. getD l k (0, 0)) (take-map point-demand size (c .rows .answers))) in
     let more = lowest-more levels n level ts (c .levels-test .taken) (getD-default levels n 0 level (c .levels-test .taken)) in
     sym (c .levels .inv .1) ∙ more ∙ ap (λ o. at-level level o (lowest (drop (n + 1) levels) ts)) (all-answered level ts found done (omega arith))
 

@@ -5,7 +5,7 @@ use lib.ListN.{length, getD, take, drop}
 use Rattle.theory.specs.Search.{None-below}
 use Rattle.theory.specs.Test.{lowest, first-failing}
 use Rattle.theory.proofs.Tables.{Answered}
-use Rattle.tasks.specs.Tables.{task-of, pair}
+use Rattle.tasks.specs.Tables.{task-of, point-demand}
 use Rattle.tasks.proofs.OneRow.{Begins}
 use Rattle.tasks.proofs.search.lowest_level.Given as given
 
@@ -19,7 +19,7 @@ abbrev pub μ-points : given.MeasureT-points
 -- the rows so far have their answers, and the next one begins where the last ended
 abbrev pub Inv-rows : given.InvT-rows
 Inv-rows l =
-    (l .ahead < 2 ^ 46) × (length (l .answers) ≡ length (l .entry .answers)) × Answered (l .level) (map task-of (l .tasks)) (l .i) (map pair (l .answers))
+    (l .ahead < 2 ^ 46) × (length (l .answers) ≡ length (l .entry .answers)) × Answered (l .level) (map task-of (l .tasks)) (l .i) (map point-demand (l .answers))
     × Begins (l .level) (take (l .i) (map task-of (l .tasks))) (l .ahead)
 
 -- the levels so far do not pass, and at the last of them `failed` is the place of the first row that fails

@@ -1,4 +1,4 @@
--- The plan is what the test found, and the test is exact at every listed level.
+-- The plan is what the search found, and the level test is exact at every listed level.
 use mathlib.Core.List.{List, map}
 use mathlib.Core.Path.{_≡_, refl, sym, ap, ap₂, subst, _∙_}
 use Prim.Native.Nat.{ℕ}
@@ -8,7 +8,7 @@ use Rattle.std.specs.declared.result.Result.{Result}
 use Rattle.std.specs.declared.result.Result.the-variants.{Ok, Err}
 use Rattle.fault.specs.declared.Fault.{Fault}
 use Rattle.tasks.specs.Admission.{plan-answers, Lowest-in-time}
-use Rattle.tasks.specs.Tables.{task-of, pair, listed, levels-of, tasks-of}
+use Rattle.tasks.specs.Tables.{task-of, point-demand, listed, levels-of, tasks-of}
 use Rattle.tasks.proofs.Admitting.{Judged, in-time, judged}
 use Rattle.tasks.proofs.OneRow.{valid-tasks}
 use Rattle.tasks.proofs.table.OpenTable.admit.Needs as need
@@ -19,8 +19,8 @@ returns-in-Ok c =
     let (levels, tasks, level, answers) = c .at-level .ensures in
     let (some, answer, found) = c .in-Ok .ensures tt in
     let plan = c .at-level .result in
-    let kept : map pair (take (vec-len (table .tasks)) (c .test .last .answers)) ≡ plan-answers plan =
-    ap₂ (λ t a. map pair (take (vec-len t) a)) (sym tasks) (sym answers) in
+    let kept : map point-demand (take (vec-len (table .tasks)) (c .search .last .answers)) ≡ plan-answers plan =
+    ap₂ (λ t a. map point-demand (take (vec-len t) a)) (sym tasks) (sym answers) in
     let law = subst (Judged (levels-of table) (tasks-of table)) answer (judged (levels-of table) (tasks-of table) (table .levels .listed) (valid-tasks _)) in
     record {
       answer = (answer ∙ ap₂ (λ (f : ℕ) (x : List (ℕ × ℕ)). Ok (f, x)) (sym level) kept, ap listed levels, ap (λ t. map task-of (vec-items t)) tasks);

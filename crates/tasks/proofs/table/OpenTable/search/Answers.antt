@@ -17,11 +17,11 @@ use Rattle.theory.specs.Test.{lowest, first-failing}
 use Rattle.tasks.specs.declared.task.Task.{Task}
 use Rattle.tasks.specs.Admission.{some-empty}
 use Rattle.tasks.specs.Levels.{ascending, top}
-use Rattle.tasks.specs.Tables.{task-of, pair, levels-of, tasks-of}
+use Rattle.tasks.specs.Tables.{task-of, point-demand, levels-of, tasks-of}
 use Rattle.tasks.proofs.Admitting.{some-level, some-levels, admission-empty, admission-search}
 use Rattle.tasks.proofs.OneRow.{valid-tasks}
-use Rattle.tasks.proofs.table.OpenTable.test.Needs as need
-use Rattle.tasks.proofs.table.OpenTable.test.Needs.{After-lowest-level}
+use Rattle.tasks.proofs.table.OpenTable.search.Needs as need
+use Rattle.tasks.proofs.table.OpenTable.search.Needs.{After-lowest-level}
 
 pub returns-then-some-empty : need.returns-then-some-empty
 returns-then-some-empty c =
@@ -47,11 +47,11 @@ returns-in-Ok c =
     let table = c .args .self .now in
     let level = c .in-Ok .level in
     let kept = c .lowest-level .last .answers in
-    let found : lowest (levels-of table) (tasks-of table) ≡ Some (level, map pair (take (vec-len (table .tasks)) kept)) =
-    sym (same (need.at·returns-in-Ok c .After-lowest-level)) ∙ c .in-Ok .ensures tt ∙ ap (λ (n : ℕ). Some (level, map pair (take n kept))) (c .as-slice-2 .ensures .len) in
-    let search = admission-search (levels-of table) (tasks-of table) (sym (c .if-some-empty .ensures tt)) in (
+    let found : lowest (levels-of table) (tasks-of table) ≡ Some (level, map point-demand (take (vec-len (table .tasks)) kept)) =
+    sym (same (need.at·returns-in-Ok c .After-lowest-level)) ∙ c .in-Ok .ensures tt ∙ ap (λ (n : ℕ). Some (level, map point-demand (take n kept))) (c .as-slice-2 .ensures .len) in
+    let whole = admission-search (levels-of table) (tasks-of table) (sym (c .if-some-empty .ensures tt)) in (
       some-level (levels-of table) (tasks-of table) (table .levels .listed) (valid-tasks _) level _ found,
-      search ∙ ap (λ o. okOr o (fault-at NoLevelPasses 0 (first-failing (top (levels-of table)) (tasks-of table)))) found,
+      whole ∙ ap (λ o. okOr o (fault-at NoLevelPasses 0 (first-failing (top (levels-of table)) (tasks-of table)))) found,
       found,
     )
 
@@ -62,6 +62,6 @@ returns-in-Err c =
     let none : lowest (levels-of table) (tasks-of table) ≡ None = sym (same (need.at·returns-in-Err c .After-lowest-level)) ∙ e .0 in
     let row : c .in-Err .row ≡ first-failing (top (levels-of table)) (tasks-of table) =
     e .1 ∙ ap₂ (λ (a : List ℕ) (b : List Task). first-failing (top a) (map task-of b)) (c .as-slice .ensures) (c .as-slice-2 .ensures .value) in
-    let search = admission-search (levels-of table) (tasks-of table) (sym (c .if-some-empty .ensures tt)) in
-    search ∙ ap (λ o. okOr o (fault-at NoLevelPasses 0 (first-failing (top (levels-of table)) (tasks-of table)))) none
+    let whole = admission-search (levels-of table) (tasks-of table) (sym (c .if-some-empty .ensures tt)) in
+    whole ∙ ap (λ o. okOr o (fault-at NoLevelPasses 0 (first-failing (top (levels-of table)) (tasks-of table)))) none
     ∙ ap (λ (n : ℕ). Err (fault-at NoLevelPasses 0 n)) (sym row) ∙ ap Err (sym (c .new-in-Err .ensures))
