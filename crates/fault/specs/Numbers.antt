@@ -1,5 +1,7 @@
 -- The number and the layer of each refusal.
+use mathlib.Core.Bool.{cond}
 use Prim.Native.Nat.{ℕ}
+use lib.Dec.{eqb}
 use Rattle.fault.specs.declared.Layer.{Layer}
 use Rattle.fault.specs.declared.Layer.the-variants.{Sheet, Table, Run, Unit as UnitLayer}
 use Rattle.fault.specs.declared.Refusal.{Refusal}
@@ -29,26 +31,27 @@ number-of BadRest = 19
 number-of BadDivider = 20
 number-of QueueFull = 21
 
--- The layer whose rule is broken. A count is a rule of the table; a sheet that breaks it is named by its own layer.
-abbrev pub layer-of : Refusal → Layer
-layer-of SheetTooLong = Sheet
-layer-of EndsEarly = Sheet
-layer-of BadLine = Sheet
-layer-of BadCount = Table
-layer-of BadLevel = Table
-layer-of BadPeriod = Table
-layer-of BadDeadline = Table
-layer-of BadWork = Table
-layer-of LateStart = Table
-layer-of BytesFollow = Sheet
-layer-of NoLevelPasses = Table
-layer-of UnitNotReady = Run
-layer-of LevelNotTaken = Run
-layer-of EarlyStart = Run
-layer-of CountFull = Run
-layer-of NothingGiven = Run
-layer-of UnitBusy = UnitLayer
-layer-of UnknownLevel = UnitLayer
-layer-of BadRest = UnitLayer
-layer-of BadDivider = UnitLayer
-layer-of QueueFull = Run
+-- The layer whose rule is broken, at a line of a sheet, 0 outside one. A count is a rule of the sheet that has it, and
+-- else of the table.
+abbrev pub layer-of : Refusal → ℕ → Layer
+layer-of SheetTooLong line = Sheet
+layer-of EndsEarly line = Sheet
+layer-of BadLine line = Sheet
+layer-of BadCount line = cond (eqb line 0) Table Sheet
+layer-of BadLevel line = Table
+layer-of BadPeriod line = Table
+layer-of BadDeadline line = Table
+layer-of BadWork line = Table
+layer-of LateStart line = Table
+layer-of BytesFollow line = Sheet
+layer-of NoLevelPasses line = Table
+layer-of UnitNotReady line = Run
+layer-of LevelNotTaken line = Run
+layer-of EarlyStart line = Run
+layer-of CountFull line = Run
+layer-of NothingGiven line = Run
+layer-of UnitBusy line = UnitLayer
+layer-of UnknownLevel line = UnitLayer
+layer-of BadRest line = UnitLayer
+layer-of BadDivider line = UnitLayer
+layer-of QueueFull line = Run

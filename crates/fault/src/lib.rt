@@ -1,7 +1,7 @@
 // What every refusal carries: which rule was broken, the line and the row that it is for, and the layer whose rule it is.
 ghost use mathlib.Core.Path.{_≡_};
 ghost use Rattle.fault.specs.Numbers.{number-of, layer-of};
-ghost use Rattle.fault.specs.Faults.{fault-at, sheet-count};
+ghost use Rattle.fault.specs.Faults.{fault-at};
 
 // The rules that an input can break, in the order in which they are checked.
 #[derive(Clone, Copy, PartialEq, Eq, Debug)]
@@ -99,13 +99,20 @@ impl Refusal {
         }
     }
 
-    // The layer of a refusal. A count is a rule of the table; where a sheet breaks it, the reader says so.
-    pub fn layer(self) -> Layer
-        ensures { λ r. ⌜ r ≡ layer-of self ⌝ }
+    // The layer of a refusal at a line of a sheet, 0 outside one.
+    pub fn layer(self, line: u32) -> Layer
+        ensures { λ r. ⌜ r ≡ layer-of self line ⌝ }
     {
         match self.number() {
             1..=3 | 10 => Layer::Sheet,
-            4..=9 | 11 => Layer::Table,
+            4 => {
+                if line == 0 {
+                    Layer::Table
+                } else {
+                    Layer::Sheet
+                }
+            }
+            5..=9 | 11 => Layer::Table,
             12..=16 | 21 => Layer::Run,
             _ => Layer::Unit,
         }
@@ -121,19 +128,7 @@ impl Fault {
             refusal,
             line,
             row,
-            layer: refusal.layer(),
-        }
-    }
-
-    // A count of a sheet that is out of its range, on the line that has it.
-    pub fn sheet_count(line: u32) -> Fault
-        ensures { λ r. ⌜ r ≡ sheet-count line ⌝ }
-    {
-        Fault {
-            refusal: Refusal::BadCount,
-            line,
-            row: 0,
-            layer: Layer::Sheet,
+            layer: refusal.layer(line),
         }
     }
 }

@@ -11,8 +11,8 @@ use Rattle.std.specs.declared.option.Option.the-variants.{Some, None}
 use Rattle.std.specs.declared.result.Result.{Result}
 use Rattle.std.specs.declared.result.Result.the-variants.{Ok, Err}
 use Rattle.fault.specs.declared.Fault.{Fault}
-use Rattle.fault.specs.declared.Refusal.the-variants.{SheetTooLong, EndsEarly, BadLine, LateStart, BytesFollow}
-use Rattle.fault.specs.Faults.{fault-at, sheet-count}
+use Rattle.fault.specs.declared.Refusal.the-variants.{SheetTooLong, EndsEarly, BadLine, BadCount, LateStart, BytesFollow}
+use Rattle.fault.specs.Faults.{fault-at}
 use Rattle.theory.specs.Tasks.{Task}
 use Rattle.tasks.specs.Levels.{level-fault}
 use Rattle.tasks.specs.Ranges.{one-to}
@@ -49,7 +49,7 @@ item-at form line row text =
 -- A line with a count in its range, and the text after it.
 abbrev pub count-at : ℕ → List ℕ → (ℕ → Bool) → List ℕ → Result (ℕ × List ℕ) Fault
 count-at line word in-range text =
-    and-then (item-at (count-line word) line 0 text) (λ p. cond (in-range (p .0)) (Ok p) (Err (sheet-count line)))
+    and-then (item-at (count-line word) line 0 text) (λ p. cond (in-range (p .0)) (Ok p) (Err (fault-at BadCount line 0)))
 
 -- n more items, an item a line, after those of `done` and `base` lines before them: each line has the form for an item,
 -- and each item may follow those before it. The items, and the text after them.

@@ -7,6 +7,7 @@ ghost use Rattle.std.specs.declared.result.Result.the-variants.{Ok, Err};
 ghost use Rattle.sheet.specs.Sheets.{counts};
 use crate::items::count_at;
 use fault::Fault;
+use fault::Refusal;
 
 // How many levels, tasks and first releases follow.
 #[derive(Clone, Copy)]
@@ -23,15 +24,15 @@ pub(crate) fn read_counts(text: &[u8]) -> Result<(Counts, &[u8]), Fault>
 {
     let (levels, text) = count_at(text, 1, b"levels")?;
     if levels < 1 || levels > 64 {
-        return Err(Fault::sheet_count(1));
+        return Err(Fault::new(Refusal::BadCount, 1, 0));
     }
     let (tasks, text) = count_at(text, 2, b"tasks")?;
     if tasks < 1 || tasks > 32 {
-        return Err(Fault::sheet_count(2));
+        return Err(Fault::new(Refusal::BadCount, 2, 0));
     }
     let (starts, text) = count_at(text, 3, b"starts")?;
     if starts != 0 && starts != tasks {
-        return Err(Fault::sheet_count(3));
+        return Err(Fault::new(Refusal::BadCount, 3, 0));
     }
     let counts = Counts {
         levels,

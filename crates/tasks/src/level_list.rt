@@ -9,7 +9,7 @@ ghost use Rattle.tasks.specs.Levels.{ascending};
 #[derive(Drop)]
 pub struct LevelList {
     pub(crate) levels: Vec<u32>,
-    ghost listed: { ascending 0 (vec-items levels) ≡ true },
+    ghost rising: { ascending 0 (vec-items levels) ≡ true },
     ghost few: { vec-len levels ≤ 64 },
     ghost room: { 64 ≤ vec-cap levels },
 }

@@ -6,7 +6,7 @@ ghost use mathlib.Core.List.{map};
 ghost use mathlib.Core.Path.{_≡_};
 ghost use Rattle.std.specs.Results.{Cases};
 ghost use Rattle.std.specs.declared.option.Option.the-variants.{Some, None};
-ghost use Rattle.theory.specs.Tasks.{cdiv, cost, no-task};
+ghost use Rattle.theory.specs.Tasks.{cdiv, no-task};
 ghost use Rattle.theory.specs.Test.{lowest, first-failing};
 ghost use Rattle.tasks.specs.Levels.{ascending, top};
 ghost use Rattle.tasks.specs.Loads.{asked, next, Load-of, no-load};

@@ -12,5 +12,5 @@ use Rattle.tasks.proofs.level_list.LevelList.add.Needs as need
 pub ghost-self : need.ghost-self
 ghost-self c =
     let above : top (listed (c .args .self .now)) < c .args .level = omega (arith, c .last .ensures) in
-    let asc = ascending-more (listed (c .args .self .now)) (c .args .level) (c .args .self .now .listed) above (c .if-level-gt1000 .left) in
+    let asc = ascending-more (listed (c .args .self .now)) (c .args .level) (c .args .self .now .rising) above (c .if-level-gt1000 .left) in
     search needs

@@ -21,12 +21,12 @@ returns-in-Ok c =
     let plan = c .at-level .result in
     let kept : map point-demand (take (vec-len (table .tasks)) (c .search .last .answers)) ≡ plan-answers plan =
     ap₂ (λ t a. map point-demand (take (vec-len t) a)) (sym tasks) (sym answers) in
-    let law = subst (Judged (levels-of table) (tasks-of table)) answer (judged (levels-of table) (tasks-of table) (table .levels .listed) (valid-tasks _)) in
+    let law = subst (Judged (levels-of table) (tasks-of table)) answer (judged (levels-of table) (tasks-of table) (table .levels .rising) (valid-tasks _)) in
     record {
       answer = (answer ∙ ap₂ (λ (f : ℕ) (x : List (ℕ × ℕ)). Ok (f, x)) (sym level) kept, ap listed levels, ap (λ t. map task-of (vec-items t)) tasks);
       lowest = subst (λ (f : ℕ). Lowest-in-time (levels-of table) (tasks-of table) f (plan-answers plan)) (sym level)
           (subst (Lowest-in-time (levels-of table) (tasks-of table) (c .in-Ok .level)) kept
-          (in-time (levels-of table) (tasks-of table) (table .levels .listed) (valid-tasks _) (c .in-Ok .level) _ found));
+          (in-time (levels-of table) (tasks-of table) (table .levels .rising) (valid-tasks _) (c .in-Ok .level) _ found));
       empty = (λ z. absurd z, law .0);
       none = (λ z. absurd z, law .1);
     }
@@ -35,5 +35,5 @@ pub returns-in-Err : need.returns-in-Err
 returns-in-Err c =
     let table = c .args .self in
     let answer = c .in-Err .ensures tt in
-    let law = subst (Judged (levels-of table) (tasks-of table)) answer (judged (levels-of table) (tasks-of table) (table .levels .listed) (valid-tasks _)) in
+    let law = subst (Judged (levels-of table) (tasks-of table)) answer (judged (levels-of table) (tasks-of table) (table .levels .rising) (valid-tasks _)) in
     record { answer = (answer, refl); lowest = tt; empty = law .0; none = law .1 }

@@ -33,7 +33,7 @@ lowest-level-requires c κs =
     let long = ap length (c .as-slice .ensures) in
     record {
       some = omega (arith, some-levels (levels-of table) (tasks-of table) (sym (c .if-some-empty .ensures tt)));
-      listed = ap (ascending 0) (c .as-slice .ensures) ∙ table .levels .listed;
+      listed = ap (ascending 0) (c .as-slice .ensures) ∙ table .levels .rising;
       few = omega (arith, c .as-slice-2 .ensures .len, table .few);
       room = omega (arith, c .as-slice-2 .ensures .len, table .few);
     }
@@ -50,7 +50,7 @@ returns-in-Ok c =
     let found : lowest (levels-of table) (tasks-of table) ≡ Some (level, map point-demand (take (vec-len (table .tasks)) kept)) =
     sym (same (need.at·returns-in-Ok c .After-lowest-level)) ∙ c .in-Ok .ensures tt ∙ ap (λ (n : ℕ). Some (level, map point-demand (take n kept))) (c .as-slice-2 .ensures .len) in
     let whole = admission-search (levels-of table) (tasks-of table) (sym (c .if-some-empty .ensures tt)) in (
-      some-level (levels-of table) (tasks-of table) (table .levels .listed) (valid-tasks _) level _ found,
+      some-level (levels-of table) (tasks-of table) (table .levels .rising) (valid-tasks _) level _ found,
       whole ∙ ap (λ o. okOr o (fault-at NoLevelPasses 0 (first-failing (top (levels-of table)) (tasks-of table)))) found,
       found,
     )
