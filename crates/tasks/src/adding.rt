@@ -76,7 +76,7 @@ impl LevelList {
     pub fn as_slice(&self) -> &[u32]
         ensures { λ r. ⌜ now r ≡ listed (now (self .entry)) ⌝ }
     {
-        self.levels.as_slice()
+        &self.levels
     }
 }
 
@@ -135,6 +135,6 @@ impl OpenTable {
     pub fn tasks(&self) -> &[Task]
         ensures { λ r. ⌜ map task-of (now r) ≡ tasks-of (now (self .entry)) ⌝ }
     {
-        self.tasks.as_slice()
+        &self.tasks
     }
 }

@@ -28,7 +28,7 @@ impl OpenTable {
     fn some_empty(&self) -> bool
         ensures { λ r. ⌜ r ≡ some-empty (levels-of (now (self .entry))) (tasks-of (now (self .entry))) ⌝ }
     {
-        self.levels.as_slice().is_empty() || self.tasks.is_empty()
+        self.levels().is_empty() || self.tasks.is_empty()
     }
 
     // The lowest listed level that passes, with the answers of the rows there.
@@ -41,7 +41,7 @@ impl OpenTable {
         if self.some_empty() {
             return Err(Fault::new(Refusal::BadCount, 0, 0));
         }
-        match lowest_level(self.levels.as_slice(), self.tasks.as_slice(), answers) {
+        match lowest_level(self.levels(), self.tasks.as_slice(), answers) {
             Ok(level) => Ok(level),
             Err(row) => Err(Fault::new(Refusal::NoLevelPasses, 0, row)),
         }
@@ -102,7 +102,7 @@ impl AdmittedPlan {
     pub fn tasks(&self) -> &[Task]
         ensures { λ r. ⌜ map task-of (now r) ≡ plan-tasks (now (self .entry)) ⌝ }
     {
-        self.tasks.as_slice()
+        &self.tasks
     }
 
     // The answers, that of row 1 first.

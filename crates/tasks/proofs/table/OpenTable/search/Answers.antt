@@ -30,17 +30,17 @@ returns-then-some-empty c =
 pub lowest-level-requires : need.lowest-level-requires
 lowest-level-requires c κs =
     let table = c .args .self .now in
-    let long = ap length (c .as-slice .ensures) in
+    let long = ap length (c .levels .ensures) in
     record {
       some = omega (arith, some-levels (levels-of table) (tasks-of table) (sym (c .if-some-empty .ensures tt)));
-      listed = ap (ascending 0) (c .as-slice .ensures) ∙ table .levels .rising;
-      few = omega (arith, c .as-slice-2 .ensures .len, table .few);
-      room = omega (arith, c .as-slice-2 .ensures .len, table .few);
+      listed = ap (ascending 0) (c .levels .ensures) ∙ table .levels .rising;
+      few = omega (arith, c .as-slice .ensures .len, table .few);
+      room = omega (arith, c .as-slice .ensures .len, table .few);
     }
 
 -- the search is that of the table
-same : (c : After-lowest-level) → lowest (c .as-slice .result .now) (map task-of (c .as-slice-2 .result .now)) ≡ lowest (levels-of (c .args .self .now)) (tasks-of (c .args .self .now))
-same c = ap₂ (λ (a : List ℕ) (b : List Task). lowest a (map task-of b)) (c .as-slice .ensures) (c .as-slice-2 .ensures .value)
+same : (c : After-lowest-level) → lowest (c .levels .result .now) (map task-of (c .as-slice .result .now)) ≡ lowest (levels-of (c .args .self .now)) (tasks-of (c .args .self .now))
+same c = ap₂ (λ (a : List ℕ) (b : List Task). lowest a (map task-of b)) (c .levels .ensures) (c .as-slice .ensures .value)
 
 pub returns-in-Ok : need.returns-in-Ok
 returns-in-Ok c =
@@ -48,7 +48,7 @@ returns-in-Ok c =
     let level = c .in-Ok .level in
     let kept = c .lowest-level .last .answers in
     let found : lowest (levels-of table) (tasks-of table) ≡ Some (level, map point-demand (take (vec-len (table .tasks)) kept)) =
-    sym (same (need.at·returns-in-Ok c .After-lowest-level)) ∙ c .in-Ok .ensures tt ∙ ap (λ (n : ℕ). Some (level, map point-demand (take n kept))) (c .as-slice-2 .ensures .len) in
+    sym (same (need.at·returns-in-Ok c .After-lowest-level)) ∙ c .in-Ok .ensures tt ∙ ap (λ (n : ℕ). Some (level, map point-demand (take n kept))) (c .as-slice .ensures .len) in
     let whole = admission-search (levels-of table) (tasks-of table) (sym (c .if-some-empty .ensures tt)) in (
       some-level (levels-of table) (tasks-of table) (table .levels .rising) (valid-tasks _) level _ found,
       whole ∙ ap (λ o. okOr o (fault-at NoLevelPasses 0 (first-failing (top (levels-of table)) (tasks-of table)))) found,
@@ -61,7 +61,7 @@ returns-in-Err c =
     let e = c .in-Err .ensures tt in
     let none : lowest (levels-of table) (tasks-of table) ≡ None = sym (same (need.at·returns-in-Err c .After-lowest-level)) ∙ e .0 in
     let row : c .in-Err .row ≡ first-failing (top (levels-of table)) (tasks-of table) =
-    e .1 ∙ ap₂ (λ (a : List ℕ) (b : List Task). first-failing (top a) (map task-of b)) (c .as-slice .ensures) (c .as-slice-2 .ensures .value) in
+    e .1 ∙ ap₂ (λ (a : List ℕ) (b : List Task). first-failing (top a) (map task-of b)) (c .levels .ensures) (c .as-slice .ensures .value) in
     let whole = admission-search (levels-of table) (tasks-of table) (sym (c .if-some-empty .ensures tt)) in
     whole ∙ ap (λ o. okOr o (fault-at NoLevelPasses 0 (first-failing (top (levels-of table)) (tasks-of table)))) none
     ∙ ap (λ (n : ℕ). Err (fault-at NoLevelPasses 0 n)) (sym row) ∙ ap Err (sym (c .new-in-Err .ensures))
