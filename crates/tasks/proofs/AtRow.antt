@@ -1,11 +1,9 @@
 -- The answer of a row, by its place among the answers that are kept.
-use mathlib.Core.Bool.{false, _&&_}
 use mathlib.Core.List.{List, map}
-use mathlib.Core.Logic.{_⊎_, ⊎-elim}
-use mathlib.Core.Path.{_≡_, sym, ap, _∙_}
+use mathlib.Core.Logic.{_⊎_}
+use mathlib.Core.Path.{_≡_, ap, _∙_}
 use Prim.Native.Nat.{ℕ, _-_, _<_, _≤_}
 use native.Mathlib.Omega.{arith}
-use lib.Dec.{leb}
 use lib.ListN.{length, getD, take}
 use Rattle.std.proofs.shelf.Lists.{getD-map, getD-take, length-map, length-take-le}
 use Rattle.std.proofs.shelf.Ways.{tells}

@@ -1,18 +1,18 @@
 -- The search of one row, over the loads at a level.
-use mathlib.Core.List.{List, [], _∷_, _++_, map}
-use mathlib.Core.Path.{_≡_, refl, sym, ap, ap₂, subst, _∙_}
+use mathlib.Core.List.{List, [], _∷_, map}
+use mathlib.Core.Path.{_≡_, sym, ap, ap₂, subst, _∙_}
 use Prim.Native.Nat.{ℕ, zero, suc, _+_, _<_, _≤_}
 use native.Mathlib.Omega.{arith}
 use lib.ListN.{length, getD, take}
 use Rattle.std.proofs.shelf.Lists.{take-more}
-use Rattle.std.specs.declared.option.Option.the-variants.{Some, None}
-use Rattle.theory.specs.Lists.{All, In}
+use Rattle.std.specs.declared.option.Option.the-variants.{Some}
+use Rattle.theory.specs.Lists.{All}
 use Rattle.theory.specs.Search.{next-point, None-below}
 use Rattle.theory.specs.Tasks as theory
 use Rattle.theory.specs.Tasks.{Valid, cost, demand, no-task}
 use Rattle.theory.specs.Test.{down-to, answer}
 use Rattle.theory.proofs.Demand.{demand-mono, asks-a-job}
-use Rattle.theory.proofs.Lists.{valid-above, valid-down}
+use Rattle.theory.proofs.Lists.{valid-down}
 use Rattle.theory.proofs.Next.{next-from, next-last, next-asks-no-more}
 use Rattle.theory.proofs.Points.{point-bounds}
 use Rattle.theory.proofs.Search.{jump, found, from-above}

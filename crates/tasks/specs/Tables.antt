@@ -19,7 +19,6 @@ use Rattle.tasks.specs.declared.answer.Answer.{Answer}
 use Rattle.tasks.specs.declared.level_list.LevelList.{LevelList}
 use Rattle.tasks.specs.declared.table.OpenTable.{OpenTable}
 use Rattle.tasks.specs.declared.task.Task.{Task}
-use Rattle.tasks.specs.Levels.{level-fault}
 use Rattle.tasks.specs.Ranges.{task-refusal}
 
 -- The task with these numbers.

@@ -84,9 +84,10 @@ impl OpenTable {
 }
 
 impl AdmittedPlan {
-    // The admitted level.
+    // The admitted level, which is the lowest listed one that keeps every deadline.
     pub fn level(&self) -> u32
-        ensures { λ r. ⌜ r ≡ now (self .entry) .level ⌝ }
+        ensures is { λ r. ⌜ r ≡ now (self .entry) .level ⌝ }
+        ensures lowest { λ r. ⌜ Lowest-in-time (plan-levels (now (self .entry))) (plan-tasks (now (self .entry))) r (plan-answers (now (self .entry))) ⌝ }
     {
         self.level
     }

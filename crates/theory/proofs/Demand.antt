@@ -1,11 +1,9 @@
 -- The demand of rows: of two lists together, at a later time, and row by row.
 use mathlib.Core.List.{List, [], _∷_, _++_}
-use mathlib.Core.Path.{_≡_, sym, ap, _∙_}
-use Prim.Native.Nat.{ℕ, _+_, _*_, _≤_, _<_}
+use mathlib.Core.Path.{_≡_}
+use Prim.Native.Nat.{ℕ, _+_, _*_, _≤_}
 use native.Mathlib.Nat.{mul-le-mul-left}
 use native.Mathlib.Omega.{arith}
-use lib.ListN.{length, getD, drop}
-use Rattle.std.proofs.shelf.Lists.{drop-more}
 use Rattle.theory.specs.Lists.{All}
 use Rattle.theory.specs.Tasks.{Task, Valid, cdiv, cost, demand}
 use Rattle.theory.specs.Test.{down-to}
@@ -38,8 +36,3 @@ demand-down f hi i t = omega (arith, demand-append f hi (i ∷ []) t)
 -- A valid row and those above it ask for something, in any time that is not empty.
 pub demand-pos : (f : ℕ) (hi : List Task) (i : Task) (t : ℕ) → 1 ≤ f → Valid i → 1 ≤ t → 1 ≤ demand f (down-to hi i) t
 demand-pos f hi i t hf v h = omega (arith, demand-down f hi i t, cost-pos f i hf v, asks-a-job f i t v h)
-
--- One row more of the rows from place k on.
-pub demand-more : (f : ℕ) (rows : List Task) (k : ℕ) (r : Task) (t : ℕ) → k < length rows → r ≡ getD rows k r →
-    demand f (drop k rows) t ≡ cost f r * cdiv t (r .period) + demand f (drop (k + 1) rows) t
-demand-more f rows k r t h e = ap (λ (l : List Task). demand f l t) (drop-more rows k r h ∙ ap (λ (x : Task). x ∷ drop (k + 1) rows) (sym e))

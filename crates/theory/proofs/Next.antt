@@ -1,12 +1,10 @@
 -- The next point at a time or after it: it is a point, none stands between, and no row asks for more there.
 use mathlib.Core.List.{List, [], _∷_}
 use mathlib.Core.Logic.{_⊎_, inl, inr, ⊎-elim}
-use mathlib.Core.Path.{_≡_, refl, sym, ap, _∙_}
-use Prim.Native.Nat.{ℕ, _+_, _≤_, _<_, min}
+use mathlib.Core.Path.{_≡_, refl}
+use Prim.Native.Nat.{ℕ, _≤_, _<_, min}
 use native.Mathlib.Nat.{le-div-iff-mul-le, mul-le-mul-left, mul-le-mul-right}
 use native.Mathlib.Omega.{arith}
-use lib.ListN.{length, getD, drop}
-use Rattle.std.proofs.shelf.Lists.{drop-more}
 use Rattle.std.proofs.shelf.Tests.{cases-lt}
 use Rattle.theory.specs.Lists.{All, Any, In}
 use Rattle.theory.specs.Tasks.{Task, Valid, cdiv, cost, demand}
@@ -77,9 +75,3 @@ pub next-first : (hi : List Task) (i : Task) (t q : ℕ) → All Valid (down-to 
 next-first hi i t q all m h =
     ⊎-elim (λ e. omega (arith, next-last hi i t)) (λ a. next-before i (down-to hi i) (i .deadline) t q all (a .1) h)
     (points-are i (down-to hi i) q m)
-
--- One row more of the rows from place k on.
-pub next-point-more : (rows : List Task) (k : ℕ) (r : Task) (last t : ℕ) → k < length rows → r ≡ getD rows k r →
-    next-point (drop k rows) last t ≡ next-point (drop (k + 1) rows) (min last (period-end r t)) t
-next-point-more rows k r last t h e =
-    ap (λ (l : List Task). next-point l last t) (drop-more rows k r h ∙ ap (λ (x : Task). x ∷ drop (k + 1) rows) (sym e))

@@ -17,10 +17,6 @@ use Rattle.theory.proofs.Next.{next-is-point, next-first, next-asks-no-more}
 use Rattle.theory.proofs.Points.{point-bounds}
 use Rattle.theory.proofs.Suffice.{fits-next}
 
--- No point is below the first tick.
-pub none-below-start : (f : ℕ) (hi : List Task) (i : Task) → All Valid (down-to hi i) → None-below f hi i 1
-none-below-start f hi i all q m h = absurd (omega (arith, point-bounds hi i q all m))
-
 -- Where the demand does not fit at the next point p, it fits at no point below the demand at p.
 pub jump : (f : ℕ) (hi : List Task) (i : Task) (t : ℕ) → All Valid (down-to hi i) → None-below f hi i t →
     next-point (down-to hi i) (i .deadline) t < demand f (down-to hi i) (next-point (down-to hi i) (i .deadline) t) →

@@ -1,5 +1,5 @@
 -- A job has some work, so it takes some ticks, and at most one for each unit.
-use Prim.Native.Nat.{_*_, _≤_}
+use Prim.Native.Nat.{_≤_}
 use native.Mathlib.Nat.{le-mul-of-pos-right}
 use native.Mathlib.Omega.{arith}
 use Rattle.theory.specs.Tasks.{cdiv}

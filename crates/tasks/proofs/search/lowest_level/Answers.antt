@@ -1,27 +1,24 @@
 use mathlib.Core.List.{List, map}
 use mathlib.Core.Logic.{_≢_}
 use mathlib.Core.Path.{_≡_, refl, sym, ap, subst, _∙_}
-use Prim.Native.Nat.{ℕ, _+_, _-_, _<_, _≤_}
+use Prim.Native.Nat.{ℕ, _+_, _-_, _<_}
 use borrow.Author.Count.{below-none, below-more}
 use native.Mathlib.Omega.{arith}
 use lib.ListN.{length, getD, set, take, drop}
-use Rattle.std.proofs.shelf.Lists.{at-drop-all, getD-default, getD-map, getD-set-same, getD-set-other, length-map, length-set, length-take-le, take-map, map-set, getD-take}
-use Rattle.std.specs.declared.option.Option.{Option}
-use Rattle.std.specs.declared.option.Option.the-variants.{Some, None}
-use Rattle.theory.specs.Lists.{All}
+use Rattle.std.proofs.shelf.Lists.{at-drop-all, getD-default, getD-set-same, getD-set-other, length-map, length-set, length-take-le, take-map, map-set, getD-take}
+use Rattle.std.specs.declared.option.Option.the-variants.{Some}
 use Rattle.theory.specs.Search.{None-below}
 use Rattle.theory.specs.Tasks as theory
-use Rattle.theory.specs.Tasks.{Valid, cost, no-task}
+use Rattle.theory.specs.Tasks.{cost, no-task}
 use Rattle.theory.specs.Test.{answer, answers, at-level, lowest, first-failing}
 use Rattle.theory.proofs.Demand.{cost-pos}
 use Rattle.theory.proofs.Levels.{lowest-more}
 use Rattle.theory.proofs.Search.{exhausted}
 use Rattle.theory.proofs.Tables.{Answered, all-answered, first-fails}
-use Rattle.tasks.specs.declared.answer.Answer.{Answer}
-use Rattle.tasks.specs.Loads.{asked, next, Load-of, no-load}
+use Rattle.tasks.specs.Loads.{asked, next, no-load}
 use Rattle.tasks.specs.Tables.{task-of, point-demand}
 use Rattle.tasks.proofs.Levels.{level-at}
-use Rattle.tasks.proofs.OneRow.{Begins, Stepped, valid-task, valid-tasks, valid-front, begins-first, begins-next, stepped-at}
+use Rattle.tasks.proofs.OneRow.{Stepped, valid-task, valid-tasks, valid-front, begins-first, begins-next, stepped-at}
 use Rattle.tasks.proofs.Rows.{row-is}
 use Rattle.tasks.proofs.search.lowest_level.Needs as need
 use Rattle.tasks.proofs.search.lowest_level.Needs.{After-next-point-at, After-from}

@@ -1,9 +1,7 @@
 -- The new level is above the last, so that the list with it ascends.
-use mathlib.Core.Path.{_≡_}
-use Prim.Native.Nat.{_<_, _≤_}
+use Prim.Native.Nat.{_<_}
 use native.Mathlib.Omega.{arith}
 use borrow.Author.Needs.{needs}
-use Rattle.std.proofs.shelf.Ways.{tells}
 use Rattle.tasks.specs.Levels.{top}
 use Rattle.tasks.specs.Tables.{listed}
 use Rattle.tasks.proofs.Levels.{ascending-more}

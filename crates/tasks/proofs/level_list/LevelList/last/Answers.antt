@@ -1,4 +1,3 @@
-use native.Mathlib.Omega.{arith}
 use borrow.Author.Needs.{needs}
 use Rattle.tasks.specs.Tables.{listed}
 use Rattle.tasks.proofs.Levels.{top-none}

@@ -4,9 +4,7 @@ use mathlib.Core.Path.{_≡_, refl, sym, ap, ap₂, subst, _∙_}
 use Prim.Native.Nat.{ℕ}
 use lib.ListN.{take}
 use Rattle.std.specs.Of.Vec.{vec-items, vec-len}
-use Rattle.std.specs.declared.result.Result.{Result}
-use Rattle.std.specs.declared.result.Result.the-variants.{Ok, Err}
-use Rattle.fault.specs.declared.Fault.{Fault}
+use Rattle.std.specs.declared.result.Result.the-variants.{Ok}
 use Rattle.tasks.specs.Admission.{plan-answers, Lowest-in-time}
 use Rattle.tasks.specs.Tables.{task-of, point-demand, listed, levels-of, tasks-of}
 use Rattle.tasks.proofs.Admitting.{Judged, in-time, judged}

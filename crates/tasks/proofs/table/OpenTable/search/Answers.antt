@@ -1,21 +1,17 @@
 -- What the search answers, put into the words of admission.
-use mathlib.Core.Bool.{true, false}
 use mathlib.Core.List.{List, map}
 use mathlib.Core.Path.{_≡_, sym, ap, ap₂, _∙_}
-use Prim.Native.Nat.{ℕ, _≤_}
+use Prim.Native.Nat.{ℕ}
 use native.Mathlib.Omega.{arith}
-use borrow.Author.Needs.{needs}
 use lib.ListN.{length, take}
 use Rattle.std.specs.Of.Vec.{vec-len}
 use Rattle.std.specs.Options.{okOr}
-use Rattle.std.specs.declared.option.Option.{Option}
 use Rattle.std.specs.declared.option.Option.the-variants.{Some, None}
-use Rattle.std.specs.declared.result.Result.the-variants.{Ok, Err}
+use Rattle.std.specs.declared.result.Result.the-variants.{Err}
 use Rattle.fault.specs.declared.Refusal.the-variants.{NoLevelPasses}
 use Rattle.fault.specs.Faults.{fault-at}
 use Rattle.theory.specs.Test.{lowest, first-failing}
 use Rattle.tasks.specs.declared.task.Task.{Task}
-use Rattle.tasks.specs.Admission.{some-empty}
 use Rattle.tasks.specs.Levels.{ascending, top}
 use Rattle.tasks.specs.Tables.{task-of, point-demand, levels-of, tasks-of}
 use Rattle.tasks.proofs.Admitting.{some-level, some-levels, admission-empty, admission-search}
