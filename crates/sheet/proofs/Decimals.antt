@@ -15,13 +15,16 @@ use Rattle.std.specs.Written.{decimal}
 use Rattle.std.specs.declared.option.Option.the-variants.{Some}
 use Rattle.sheet.specs.Text.{all-digits, value, number}
 
+-- The digits and the value of the sheet are those of base ten.
 own : Numerals (λ ds. all-digits ds ≡ true) value
 own = numerals-by-fold _ (search needs) (λ a ds. folded (λ v b. v * 10 + (b - 48)) a ds) (search needs)
 
 module _ (n : ℕ) (small : n < 10 ^ 9) where
+  -- It fits 64 bits, which the laws of `decimal` ask.
   fits : n < 2 ^ 64
   fits = omega arith
 
+  -- Each byte of its text is a digit.
   pub decimal-digits : all-digits (decimal n) ≡ true
   decimal-digits = digits-decimal own n fits
 

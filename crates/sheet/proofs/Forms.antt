@@ -30,10 +30,11 @@ back : {X : Type 0} (form : List ℕ → Option X) (text : X → List ℕ) (x : 
 back form text x bytes e ends f = λ line row rest.
     ap (item-at form line row) (e rest) ∙ ap (λ o. and-then (okOr o (fault-at EndsEarly line row)) (λ p. and-then (okOr (form (p .0)) (fault-at BadLine line row)) (λ x. Ok (x, p .1)))) (cut-joined 10 bytes rest ends) ∙ ap (λ o. and-then (okOr o (fault-at BadLine line row)) (λ x. Ok (x, rest))) f
 
--- Byte 10 and byte 32 stand in no decimal text.
+-- Byte 10 stands in no decimal text.
 one-line : (n : ℕ) → n < 10 ^ 9 → free 10 (decimal n) ≡ true
 one-line n small = free-digits 10 (decimal n) (omega arith) (decimal-digits n small)
 
+-- Nor does byte 32.
 one-item : (n : ℕ) → n < 10 ^ 9 → free 32 (decimal n) ≡ true
 one-item n small = free-digits 32 (decimal n) (omega arith) (decimal-digits n small)
 

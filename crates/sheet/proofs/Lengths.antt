@@ -25,6 +25,7 @@ each-short text k (x ∷ xs) h =
 number-short : (k n : ℕ) → 0 < k → n < 10 ^ k → n < 2 ^ 64 → length (number-text n) ≤ k + 1
 number-short k n some low fits = omega (arith, length-append (decimal n) (10 ∷ []), length-decimal-le k n some low fits)
 
+-- Three numbers, two spaces and byte 10.
 task-short : (t : Task) → Low t → length (task-text t) ≤ 21
 task-short t low =
     let later = decimal (t .deadline) ++ (32 ∷ decimal (t .work) ++ (10 ∷ [])) in

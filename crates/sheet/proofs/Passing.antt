@@ -73,12 +73,13 @@ tasks-follow base (x ∷ xs) done h few =
     let fine = h .0 in
     (grind (arith, tells), tasks-follow base xs (done ++ (x ∷ [])) (h .1) (omega (arith, length-push done x)))
 
+-- The numbers of a task are below the highest that a sheet may have.
 pub record Low (t : Task) : Type 0 where
   pub period : t .period ≤ 65535
   pub deadline : t .deadline ≤ 65535
   pub work : t .work ≤ 16000000
 
--- The numbers of a task in its ranges.
+-- So are those of a task in its ranges.
 pub task-low : (t : Task) → task-refusal (t .period) (t .deadline) (t .work) ≡ None → Low t
 task-low t h = record { period = grind (arith, tells); deadline = grind (arith, tells); work = grind (arith, tells) }
 

@@ -36,15 +36,19 @@ count-read : (line : ℕ) (word : List ℕ) (in-range : ℕ → Bool) (n : ℕ) 
 count-read line word in-range n rest b h = then-ok _ (b line 0 rest) ∙ cond-true (in-range n) _ _ h
 
 module _ (c : Contents) (p : Proper c) where
+  -- The text after the counts.
   abbrev items : List ℕ
   items = each-text number-text (c .levels) ++ (each-text task-text (c .tasks) ++ each-text number-text (c .starts))
 
+  -- The counts.
   abbrev many : Counts
   many = record { levels = length (c .levels); tasks = length (c .tasks); starts = length (c .starts) }
 
+  -- There are no more first releases than tasks.
   few : length (c .starts) ≤ 32
   few = omega arith
 
+  -- The first three lines give the counts.
   counts-read : counts (sheet-text c) ≡ Ok (many, items)
   counts-read =
       let levels : one-to 64 (length (c .levels)) ≡ true = grind (arith, tells) in
@@ -52,6 +56,7 @@ module _ (c : Contents) (p : Proper c) where
       let starts : (eqb (length (c .starts)) 0 || eqb (length (c .starts)) (length (c .tasks))) ≡ true = grind (arith, tells) in
       then-ok _ (count-read 1 levels-word (one-to 64) (length (c .levels)) _ (count-back levels-word _ (omega arith) refl refl refl) levels) ∙ then-ok _ (count-read 2 tasks-word (one-to 32) (length (c .tasks)) _ (count-back tasks-word _ (omega arith) refl refl refl) tasks) ∙ then-ok _ (count-read 3 starts-word _ (length (c .starts)) items (count-back starts-word _ (omega (arith, few)) refl refl refl) starts)
 
+  -- The lines after them give the contents.
   bodies-read : bodies many items ≡ Ok c
   bodies-read =
       let levels = all-weaker (λ n h. number-back n (omega arith)) (c .levels) (levels-low 0 (c .levels) (p .rising)) in
