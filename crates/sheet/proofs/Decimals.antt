@@ -15,8 +15,8 @@ use Rattle.std.specs.Written.{decimal}
 use Rattle.std.specs.declared.option.Option.the-variants.{Some}
 use Rattle.sheet.specs.Text.{all-digits, value, number}
 
--- The digits and the value of the sheet are those of base ten.
-own : Numerals (λ ds. all-digits ds ≡ true) value
+-- The bytes of digits, and their value, are those of the library.
+pub own : Numerals (λ ds. all-digits ds ≡ true) value
 own = numerals-by-fold _ (search needs) (λ a ds. folded (λ v b. v * 10 + (b - 48)) a ds) (search needs)
 
 module _ (n : ℕ) (small : n < 10 ^ 9) where

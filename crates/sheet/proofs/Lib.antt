@@ -6,3 +6,7 @@ mod Forms
 mod Passing
 mod Lengths
 mod Whole
+mod Parts
+mod Exact
+mod Followed
+mod Converse

@@ -43,7 +43,7 @@ module _ {X : Type 0} (form : List ℕ → Option X) (text : X → List ℕ) (ch
       ap (λ t. and-then (item-at form (base + row) row t) more) (append-assoc (text x) (each-text text xs) rest) ∙ ap (λ r. and-then r more) (b .0 (base + row) row (each-text text xs ++ rest)) ∙ ap (λ o. unless o (body form check base (length xs) (done ++ (x ∷ [])) (each-text text xs ++ rest))) (f .0) ∙ body-back xs (done ++ (x ∷ [])) rest (b .1) (f .1) ∙ ap (λ l. Ok (l, rest)) (append-assoc done (x ∷ []) xs)
 
 -- The last level of a list is the one that came last.
-top-push : (done : List ℕ) (x : ℕ) → top (done ++ (x ∷ [])) ≡ x
+pub top-push : (done : List ℕ) (x : ℕ) → top (done ++ (x ∷ [])) ≡ x
 top-push done x = getD-push done x 0 _ (omega (arith, length-push done x))
 
 -- Levels that ascend.

@@ -9,9 +9,8 @@ use lib.ListN.{length}
 use Rattle.std.proofs.shelf.Lists.{append-nil}
 use Rattle.std.proofs.shelf.Tests.{cond-true, cond-false, le-ltb}
 use Rattle.std.proofs.shelf.Ways.{tells}
-use Rattle.std.specs.Results.{Cases}
 use Rattle.std.specs.declared.result.Result.{Result}
-use Rattle.std.specs.declared.result.Result.the-variants.{Ok, Err}
+use Rattle.std.specs.declared.result.Result.the-variants.{Ok}
 use Rattle.fault.specs.declared.Fault.{Fault}
 use Rattle.tasks.specs.Levels.{level-fault}
 use Rattle.tasks.specs.Ranges.{one-to}
@@ -20,9 +19,7 @@ use Rattle.sheet.specs.Lines.{levels-word, tasks-word, starts-word, count-line
 use Rattle.sheet.specs.Sheets.{Contents, and-then, count-at, body, start-fault, counts, bodies, read-sheet}
 use Rattle.sheet.specs.Text.{number}
 use Rattle.sheet.specs.Written.{count-text, number-text, task-text, each-text, sheet-text, Proper}
-use Rattle.sheet.specs.Contents.{contents-of}
 use Rattle.sheet.specs.declared.counts.Counts.{Counts}
-use Rattle.sheet.specs.declared.sheet.Sheet.{Sheet}
 use Rattle.sheet.proofs.Forms.{Back, number-back, count-back, task-back}
 use Rattle.sheet.proofs.Lengths.{sheet-short}
 use Rattle.sheet.proofs.Passing.{all-weaker, body-back, levels-follow, levels-low, tasks-follow, task-low, starts-follow}
@@ -67,8 +64,3 @@ module _ (c : Contents) (p : Proper c) where
   -- The text of proper contents gives those contents.
   pub sheet-back : read-sheet (sheet-text c) ≡ Ok c
   sheet-back = cond-false (ltb 4096 (length (sheet-text c))) _ _ (le-ltb _ _ (sheet-short c p)) ∙ then-ok _ counts-read ∙ bodies-read
-
--- So does the code that answers what the bytes say.
-pub read-back : (bytes : List ℕ) (r : Result Sheet Fault) → Cases r (λ s. read-sheet bytes ≡ Ok (contents-of s)) (λ f. read-sheet bytes ≡ Err f) → (c : Contents) → Proper c → bytes ≡ sheet-text c → Cases r (λ s. contents-of s ≡ c) (λ _. ⊥)
-read-back bytes (Ok s) v c p e = let b = sheet-back c p in let same = ap read-sheet e in cc
-read-back bytes (Err f) v c p e = let b = sheet-back c p in let same = ap read-sheet e in let z : _≡_ {A = ℕ} 0 1 = cc in absurd (omega arith)

@@ -1,9 +1,10 @@
 // Reading a sheet, line by line: the first fault is the answer.
+ghost use mathlib.Core.Logic.{_↔_};
 ghost use mathlib.Core.Path.{_≡_};
 ghost use Prim.Native.Nat.{_≤_};
 ghost use Rattle.std.specs.Results.{Cases};
 ghost use Rattle.std.specs.declared.result.Result.the-variants.{Ok, Err};
-ghost use Rattle.sheet.specs.Contents.{contents-of};
+ghost use Rattle.sheet.specs.Contents.{contents-of, Reads-as};
 ghost use Rattle.sheet.specs.Sheets.{Contents, bodies, read-sheet};
 ghost use Rattle.sheet.specs.Written.{Proper, sheet-text};
 use crate::bodies::read_levels;
@@ -23,7 +24,7 @@ use tasks::table::OpenTable;
 const COUNT_LINES: u32 = 3;
 
 impl BlankSheet {
-    // Room for a sheet; the only call that can find no memory.
+    // Room for a sheet; the only call on a sheet that can find no memory.
     pub fn new(heap: Global) -> Result<BlankSheet, AllocError> {
         Ok(BlankSheet {
             table: OpenTable::new(heap)?,
@@ -31,10 +32,11 @@ impl BlankSheet {
         })
     }
 
-    // What the bytes of a sheet say, or the first fault in them. The text of proper contents is read as those contents.
+    // What the bytes of a sheet say, or the first fault in them. Contents are read exactly where they are proper and the
+    // bytes are their text.
     pub fn read(self, bytes: &[u8]) -> Result<Sheet, Fault>
         ensures value { λ r. ⌜ Cases r (λ s. read-sheet (now (bytes .entry)) ≡ Ok (contents-of s)) (λ f. read-sheet (now (bytes .entry)) ≡ Err f) ⌝ }
-        ensures written { λ r. ⌜ ((c : Contents) → Proper c → now (bytes .entry) ≡ sheet-text c → Cases r (λ s. contents-of s ≡ c) (λ _. ⊥)) ⌝ }
+        ensures exact { λ r. ⌜ ((c : Contents) → Reads-as r c ↔ (Proper c × (now (bytes .entry) ≡ sheet-text c))) ⌝ }
     {
         if bytes.len() > 4096 {
             return Err(Fault::new(Refusal::SheetTooLong, 0, 0));
