@@ -10,3 +10,5 @@ mod Parts
 mod Exact
 mod Followed
 mod Converse
+mod Faults
+mod Promises

@@ -1,6 +1,6 @@
 -- What an answer without a fault says of the parts that it comes of. Each lemma hands the parts on.
 use mathlib.Core.Bool.{Bool, true, false, cond}
-use mathlib.Core.Path.{_≡_, refl}
+use mathlib.Core.Path.{_≡_, refl, sym}
 use Prim.Native.Nat.{ℕ}
 use native.Mathlib.Omega.{arith}
 use Rattle.std.specs.Options.{okOr}
@@ -39,6 +39,11 @@ ok-parts (Err f) k h on = err-ok h
 pub ok-some : {A : Type 0} (o : Option A) (f : Fault) {x : A} → okOr o f ≡ Ok x → o ≡ Some x
 ok-some None f h = err-ok h
 ok-some (Some x) f h = cc
+
+-- Where a value or a fault is a fault, it is that one.
+pub err-none : {A : Type 0} (o : Option A) (g : Fault) {f : Fault} → okOr o g ≡ Err f → g ≡ f
+err-none None g h = cc
+err-none (Some x) g h = err-ok (sym h)
 
 -- Where there is no fault unless there is one, there is none.
 pub ok-unless : {A Z : Type 0} (o : Option Fault) (r : Result A Fault) {x : A} → unless o r ≡ Ok x → (o ≡ None → r ≡ Ok x → Z) → Z

@@ -5,4 +5,5 @@ pub mod Reads
 pub mod Contents
 pub mod Written
 pub mod Listing
-pub mod Answers
+pub mod Replies
+pub mod Promise

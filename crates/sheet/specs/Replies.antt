@@ -7,7 +7,7 @@ use Rattle.std.specs.declared.result.Result.the-variants.{Ok, Err}
 use Rattle.fault.specs.declared.Fault.{Fault}
 use Rattle.tasks.specs.Admission.{admission}
 use Rattle.sheet.specs.Listing.{listing-text, refusal-text}
-use Rattle.sheet.specs.Sheets.{Contents, and-then, read-sheet}
+use Rattle.sheet.specs.Sheets.{and-then, read-sheet}
 
 -- The admitted level of a sheet and the answers of its rows, or the first refusal.
 abbrev pub admitted : List ℕ → Result (ℕ × List (ℕ × ℕ)) Fault
