@@ -1,0 +1,3 @@
+pub mod Order
+pub mod Entries
+pub mod Steps
