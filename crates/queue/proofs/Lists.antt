@@ -28,7 +28,7 @@ first-item (suc n) (y ∷ ys) None some item = absurd (omega (arith, item .3))
 first-item (suc n) (y ∷ ys) (Some x) some item = ap Some (item .1)
 
 -- A front longer than the list is the whole list.
-pub take-within : {E : Type 0} (xs : List E) (len n : ℕ) → n ≡ min (length xs) len → take len xs ≡ take n xs
+pub take-within : {E : Type 0} (xs : List E) (len n : ℕ) → n ≡ min len (length xs) → take len xs ≡ take n xs
 take-within xs len n is =
     ⊎-elim
     (λ lt. let e : len ≡ n = omega arith in ap (λ (i : ℕ). take i xs) e)

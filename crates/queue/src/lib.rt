@@ -4,7 +4,7 @@ ghost use lib.ListN.{length, take, drop};
 ghost use mathlib.Core.Bool.{Bool, true};
 ghost use mathlib.Core.List.{_∷_};
 ghost use mathlib.Core.Path.{_≡_};
-ghost use Prim.Native.Nat.{_≤_};
+ghost use Prim.Native.Nat.{ℕ, _+_, _-_, _<_, _≤_, min};
 ghost use Rattle.queue.specs.Entries.{sooner};
 ghost use Rattle.queue.specs.Order.{Order, ordered, sorted};
 ghost use Rattle.queue.specs.Steps.{Puts, Takes, first};
@@ -47,7 +47,9 @@ pub impl Ranked for Entry as EntryRanked {
 // How many entries at the front stay before `new`.
 fn place<E: Ranked + Copy>(entries: &[E], new: E) -> usize
     ensures within { λ r. ⌜ r ≤ length (now (entries .entry)) ⌝ }
-    ensures cuts { λ r. ⌜ ordered before new (now (entries .entry)) ≡ inserted (now (entries .entry)) r new ⌝ }
+    ensures cuts { λ r. ⌜ inserted (now (entries .entry)) r new ≡ ordered before new (now (entries .entry)) ⌝ }
+    ensures sorted { λ _. ⌜ (sorted before (now (entries .entry)) ≡ true → sorted before (ordered before new (now (entries .entry))) ≡ true) ⌝ }
+    ensures shuffled { λ _. ⌜ Shuffled (new ∷ now (entries .entry)) (ordered before new (now (entries .entry))) ⌝ }
 {
     for (at, next) in entries.iter().enumerate() {
         if !next.upto(new) {
@@ -55,6 +57,38 @@ fn place<E: Ranked + Copy>(entries: &[E], new: E) -> usize
         }
     }
     entries.len()
+}
+
+// Writes `new` behind the first `n` entries, and turns it to the place `at` among them.
+fn insert<E: Copy>(slots: &mut [E], n: usize, at: usize, new: E)
+    requires room { ⌜ n < length (now slots) ⌝ }
+    requires among { ⌜ at ≤ n ⌝ }
+    ensures front { λ _. ⌜ take (n + 1) (now (slots .exit)) ≡ inserted (take n (now (slots .entry))) at new ⌝ }
+    ensures spare { λ _. ⌜ drop (n + 1) (now (slots .exit)) ≡ drop (n + 1) (now (slots .entry)) ⌝ }
+{
+    slots[n] = new;
+    slots[at..n + 1].rotate_right(1);
+}
+
+// How many entries stand in the slots.
+fn held<E>(slots: &[E], len: usize) -> usize
+    ensures count { λ r. ⌜ r ≡ min len (length (now (slots .entry))) ⌝ }
+    ensures front { λ r. ⌜ take len (now (slots .entry)) ≡ take r (now (slots .entry)) ⌝ }
+{
+    slots.len().min(len)
+}
+
+// Takes the first of the first `n` entries out: the others move up, and it is left behind them.
+fn remove<E: Ranked + Copy>(slots: &mut [E], n: usize) -> E
+    requires some { ⌜ 0 < n ⌝ }
+    requires within { ⌜ n ≤ length (now slots) ⌝ }
+    ensures front { λ r. ⌜ take n (now (slots .entry)) ≡ r ∷ take (n - 1) (now (slots .exit)) ⌝ }
+    ensures spare { λ _. ⌜ ((m : ℕ) → n ≤ m → drop m (now (slots .exit)) ≡ drop m (now (slots .entry))) ⌝ }
+    ensures sorted { λ _. ⌜ (sorted before (take n (now (slots .entry))) ≡ true → sorted before (take (n - 1) (now (slots .exit))) ≡ true) ⌝ }
+{
+    let first = slots[0];
+    slots[0..n].rotate_left(1);
+    first
 }
 
 // Puts `new` after every entry that may stand before it, and before the others. Where every slot is taken it is refused, and nothing changes.
@@ -70,8 +104,7 @@ pub fn put<E: Ranked + Copy>(slots: &mut [E], len: &mut usize, new: E) -> Result
         return Err(Fault::new(Refusal::QueueFull, 0, 0));
     }
     let at = place(&slots[0..n], new);
-    slots[n] = new;
-    slots[at..n + 1].rotate_right(1);
+    insert(slots, n, at, new);
     *len = n + 1;
     Ok(())
 }
@@ -83,12 +116,11 @@ pub fn take_head<E: Ranked + Copy>(slots: &mut [E], len: &mut usize) -> Option<E
     ensures sorted { λ _. ⌜ (sorted before (take (now (len .entry)) (now (slots .entry))) ≡ true → sorted before (take (now (len .exit)) (now (slots .exit))) ≡ true) ⌝ }
     ensures within { λ _. ⌜ now (len .exit) ≤ now (len .entry) ⌝ }
 {
-    let n = slots.len().min(*len);
+    let n = held(slots, *len);
     if n == 0 {
         return None;
     }
-    let first = slots[0];
-    slots[0..n].rotate_left(1);
+    let first = remove(slots, n);
     *len = n - 1;
     Some(first)
 }
