@@ -1,5 +1,4 @@
 // Examples of the queue, at rows by their number and at releases by tick and then row.
-ghost use mathlib.Core.Path.{_≡_};
 ghost use Rattle.queue_examples.specs.Rows.{smaller};
 use queue::Ranked;
 

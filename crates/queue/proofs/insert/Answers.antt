@@ -1,4 +1,3 @@
-use native.Mathlib.Omega.{arith}
 use Rattle.queue.proofs.Lists.{turned-in, turned-past}
 use Rattle.queue.proofs.insert.Needs as need
 

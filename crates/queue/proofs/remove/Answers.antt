@@ -1,6 +1,5 @@
 use mathlib.Core.Bool.{true}
 use mathlib.Core.Path.{_≡_, subst}
-use native.Mathlib.Omega.{arith}
 use borrow.Author.Needs.{needs}
 use Rattle.queue.specs.Order.{sorted}
 use Rattle.queue.proofs.Lists.{turned-out}
