@@ -1,4 +1,4 @@
--- The lists behind the queue's calls. Assumes nothing.
+-- The lists behind the queue's calls.
 use mathlib.Core.Bool.{Bool, true, false}
 use mathlib.Core.List.{List, [], _∷_, _++_, append-assoc}
 use mathlib.Core.Logic.{⊎-elim}

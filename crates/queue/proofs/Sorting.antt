@@ -1,4 +1,4 @@
--- An entry put in order into a list: a sorted list stays sorted, and nothing is lost. Assumes nothing.
+-- An entry put in order into a list: a sorted list stays sorted, and nothing is lost.
 use mathlib.Core.Bool.{Bool, true}
 use mathlib.Core.List.{List, [], _∷_}
 use mathlib.Core.Logic.{⊎-elim}

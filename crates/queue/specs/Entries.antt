@@ -1,4 +1,4 @@
--- The order of the entries of a run. Assumes nothing.
+-- The order of the entries of a run.
 use mathlib.Core.Bool.{Bool, cond}
 use lib.Dec.{leb, ltb, eqb}
 use Rattle.queue.specs.declared.Entry.{Entry}

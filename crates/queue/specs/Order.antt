@@ -1,4 +1,4 @@
--- A total order given as a test, and a list that is put in order by it. Assumes nothing.
+-- A total order given as a test, and a list that is put in order by it.
 use mathlib.Core.Bool.{Bool, true, cond, _&&_}
 use mathlib.Core.List.{List, [], _∷_}
 use mathlib.Core.Logic.{_⊎_}

@@ -1,4 +1,4 @@
--- What each call of the queue does to its slots and len, whose contents are take len slots. Assumes nothing.
+-- What each call of the queue does to its slots and len, whose contents are take len slots.
 use mathlib.Core.Bool.{Bool}
 use mathlib.Core.List.{List, [], _∷_}
 use mathlib.Core.Path.{_≡_}

@@ -1,4 +1,4 @@
--- The order of rows. Assumes nothing.
+-- The order of rows.
 use mathlib.Core.Bool.{Bool}
 use lib.Dec.{leb}
 use Rattle.queue_examples.specs.declared.Row.{Row}
