@@ -1,5 +1,5 @@
 -- What is read without a fault is proper, and the bytes are its text.
-use mathlib.Core.Bool.{Bool, true, _||_}
+use mathlib.Core.Bool.{Bool, true}
 use mathlib.Core.List.{List, [], _∷_, _++_}
 use mathlib.Core.Logic.{_↔_, inl, inr, ⊎-elim}
 use mathlib.Core.Path.{_≡_, refl, sym, ap, subst, _∙_}
@@ -19,7 +19,7 @@ use Rattle.tasks.specs.Ranges.{one-to}
 use Rattle.tasks.specs.Tables.{task-fault}
 use Rattle.sheet.specs.Contents.{contents-of, Reads-as}
 use Rattle.sheet.specs.Lines.{levels-word, tasks-word, starts-word, count-line, task-line}
-use Rattle.sheet.specs.Sheets.{Contents, item-at, count-at, body, start-fault, at-end, counts, bodies, read-lines, read-sheet}
+use Rattle.sheet.specs.Sheets.{Contents, item-at, count-at, body, start-fault, at-end, each-or-none, counts, bodies, read-lines, read-sheet}
 use Rattle.sheet.specs.Text.{number}
 use Rattle.sheet.specs.Written.{count-text, number-text, task-text, each-text, sheet-text, Proper}
 use Rattle.sheet.specs.declared.counts.Counts.{Counts}
@@ -40,12 +40,12 @@ count-exact line word in-range text {p} h = ok-parts (item-at (count-line word) 
 record Counted (n : Counts) (text rest : List ℕ) : Type 0 where
   levels : one-to 64 (n .levels) ≡ true
   tasks : one-to 32 (n .tasks) ≡ true
-  starts : (eqb (n .starts) 0 || eqb (n .starts) (n .tasks)) ≡ true
+  starts : each-or-none (n .tasks) (n .starts) ≡ true
   lines : text ≡ count-text levels-word (n .levels) ++ (count-text tasks-word (n .tasks) ++ (count-text starts-word (n .starts) ++ rest))
 
 -- The counts that are read are so.
 counts-exact : (text : List ℕ) {p : Counts × List ℕ} → counts text ≡ Ok p → Counted (p .0) text (p .1)
-counts-exact text {p} h = ok-parts (count-at 1 levels-word (one-to 64) text) _ h (λ l first h. ok-parts (count-at 2 tasks-word (one-to 32) (l .1)) _ h (λ k second h. ok-parts (count-at 3 starts-word (λ n. eqb n 0 || eqb n (k .0)) (k .1)) _ h (λ s third h.
+counts-exact text {p} h = ok-parts (count-at 1 levels-word (one-to 64) text) _ h (λ l first h. ok-parts (count-at 2 tasks-word (one-to 32) (l .1)) _ h (λ k second h. ok-parts (count-at 3 starts-word (each-or-none (k .0)) (k .1)) _ h (λ s third h.
     let levels = count-exact 1 levels-word (one-to 64) text first in
     let tasks = count-exact 2 tasks-word (one-to 32) (l .1) second in
     let starts = count-exact 3 starts-word _ (k .1) third in

@@ -1,10 +1,10 @@
 -- The faults that reading meets are the refusals 1 to 10.
-use mathlib.Core.Bool.{Bool, _&&_, _||_}
+use mathlib.Core.Bool.{Bool, _&&_}
 use mathlib.Core.List.{List, [], _∷_, _++_}
 use mathlib.Core.Path.{_≡_, subst}
 use Prim.Native.Nat.{ℕ, zero, suc, _+_, _≤_}
 use native.Mathlib.Omega.{arith}
-use lib.Dec.{leb, ltb, eqb}
+use lib.Dec.{leb, ltb}
 use lib.ListN.{length}
 use Rattle.std.proofs.shelf.Tests.{cond-both}
 use Rattle.std.specs.Options.{okOr, mapped}
@@ -21,7 +21,7 @@ use Rattle.tasks.specs.Levels.{top, level-fault}
 use Rattle.tasks.specs.Ranges.{one-to}
 use Rattle.tasks.specs.Tables.{task-fault}
 use Rattle.sheet.specs.Lines.{levels-word, tasks-word, starts-word, count-line, task-line}
-use Rattle.sheet.specs.Sheets.{Contents, and-then, unless, due-line, item-at, count-at, body, start-fault, at-end, counts, bodies, read-lines, read-sheet}
+use Rattle.sheet.specs.Sheets.{Contents, and-then, unless, due-line, item-at, count-at, body, start-fault, at-end, each-or-none, counts, bodies, read-lines, read-sheet}
 use Rattle.sheet.specs.Text.{cut, number}
 use Rattle.sheet.specs.declared.counts.Counts.{Counts}
 
@@ -85,7 +85,7 @@ end-low line c (b ∷ bs) = omega arith
 
 -- So it is of the first three lines.
 counts-low : (text : List ℕ) → Ok-or-low (counts text)
-counts-low text = then-low (count-at 1 levels-word (one-to 64) text) _ (count-low 1 levels-word (one-to 64) text) (λ l. then-low (count-at 2 tasks-word (one-to 32) (l .1)) _ (count-low 2 tasks-word (one-to 32) (l .1)) (λ k. then-low (count-at 3 starts-word (λ n. eqb n 0 || eqb n (k .0)) (k .1)) _ (count-low 3 starts-word _ (k .1)) (λ s. tt)))
+counts-low text = then-low (count-at 1 levels-word (one-to 64) text) _ (count-low 1 levels-word (one-to 64) text) (λ l. then-low (count-at 2 tasks-word (one-to 32) (l .1)) _ (count-low 2 tasks-word (one-to 32) (l .1)) (λ k. then-low (count-at 3 starts-word (each-or-none (k .0)) (k .1)) _ (count-low 3 starts-word _ (k .1)) (λ s. tt)))
 
 -- So it is of the lines after them.
 bodies-low : (n : Counts) (text : List ℕ) → Ok-or-low (bodies n text)

@@ -1,10 +1,10 @@
 -- The text of proper contents is read as those contents.
-use mathlib.Core.Bool.{Bool, true, _||_}
+use mathlib.Core.Bool.{Bool, true}
 use mathlib.Core.List.{List, [], _++_}
 use mathlib.Core.Path.{_≡_, refl, sym, ap, _∙_}
 use Prim.Native.Nat.{ℕ, _≤_}
 use native.Mathlib.Omega.{arith}
-use lib.Dec.{eqb, ltb}
+use lib.Dec.{ltb}
 use lib.ListN.{length}
 use Rattle.std.proofs.shelf.Lists.{append-nil}
 use Rattle.std.proofs.shelf.Tests.{cond-true, cond-false, le-ltb}
@@ -16,7 +16,7 @@ use Rattle.tasks.specs.Levels.{level-fault}
 use Rattle.tasks.specs.Ranges.{one-to}
 use Rattle.tasks.specs.Tables.{task-fault}
 use Rattle.sheet.specs.Lines.{levels-word, tasks-word, starts-word, count-line, task-line}
-use Rattle.sheet.specs.Sheets.{Contents, and-then, count-at, body, start-fault, counts, bodies, read-sheet}
+use Rattle.sheet.specs.Sheets.{Contents, and-then, count-at, body, start-fault, each-or-none, counts, bodies, read-sheet}
 use Rattle.sheet.specs.Text.{number}
 use Rattle.sheet.specs.Written.{count-text, number-text, task-text, each-text, sheet-text, Proper}
 use Rattle.sheet.specs.declared.counts.Counts.{Counts}
@@ -50,7 +50,7 @@ module _ (c : Contents) (p : Proper c) where
   counts-read =
       let levels : one-to 64 (length (c .levels)) ≡ true = grind (arith, tells) in
       let tasks : one-to 32 (length (c .tasks)) ≡ true = grind (arith, tells) in
-      let starts : (eqb (length (c .starts)) 0 || eqb (length (c .starts)) (length (c .tasks))) ≡ true = grind (arith, tells) in
+      let starts : each-or-none (length (c .tasks)) (length (c .starts)) ≡ true = grind (arith, tells) in
       then-ok _ (count-read 1 levels-word (one-to 64) (length (c .levels)) _ (count-back levels-word _ (omega arith) refl refl refl) levels) ∙ then-ok _ (count-read 2 tasks-word (one-to 32) (length (c .tasks)) _ (count-back tasks-word _ (omega arith) refl refl refl) tasks) ∙ then-ok _ (count-read 3 starts-word _ (length (c .starts)) items (count-back starts-word _ (omega (arith, few)) refl refl refl) starts)
 
   -- The lines after them give the contents.

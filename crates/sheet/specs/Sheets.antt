@@ -68,12 +68,16 @@ abbrev pub at-end : ℕ → Contents → List ℕ → Result Contents Fault
 at-end line c [] = Ok c
 at-end line c (b ∷ bs) = Err (fault-at BytesFollow line 0)
 
--- The first three lines, and the text after them. First releases are for each task or for none.
+-- First releases are for each task or for none.
+abbrev pub each-or-none : ℕ → ℕ → Bool
+each-or-none tasks starts = eqb starts 0 || eqb starts tasks
+
+-- The first three lines, and the text after them.
 abbrev pub counts : List ℕ → Result (Counts × List ℕ) Fault
 counts text =
     and-then (count-at 1 levels-word (one-to 64) text) (λ l.
     and-then (count-at 2 tasks-word (one-to 32) (l .1)) (λ k.
-    and-then (count-at 3 starts-word (λ n. eqb n 0 || eqb n (k .0)) (k .1)) (λ s.
+    and-then (count-at 3 starts-word (each-or-none (k .0)) (k .1)) (λ s.
     Ok (record { levels = l .0; tasks = k .0; starts = s .0 }, s .1))))
 
 -- The lines after the counts.

@@ -50,6 +50,7 @@ pub(crate) fn read_tasks<'a>(
     requires few { ⌜ base + count < 2 ^ 32 ⌝ }
     requires empty { ⌜ length (tasks-of (now table)) ≡ 0 ⌝ }
     ensures tasks { λ r. ⌜ Reads (body task-line task-fault base count [] (now (text .entry))) (tasks-of (now (table .exit))) r ⌝ }
+    ensures all { λ r. ⌜ made r (λ _. length (tasks-of (now (table .exit))) ≡ count) ⌝ }
     ensures levels { λ _. ⌜ levels-of (now (table .exit)) ≡ levels-of (now (table .entry)) ⌝ }
 {
     let mut text = text;

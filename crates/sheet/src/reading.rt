@@ -1,11 +1,12 @@
 // Reading a sheet, line by line: the first fault is the answer.
+ghost use mathlib.Core.Bool.{true};
 ghost use mathlib.Core.Logic.{_↔_};
 ghost use mathlib.Core.Path.{_≡_};
 ghost use Prim.Native.Nat.{_≤_};
 ghost use Rattle.std.specs.Results.{Cases};
 ghost use Rattle.std.specs.declared.result.Result.the-variants.{Ok, Err};
 ghost use Rattle.sheet.specs.Contents.{contents-of, Reads-as};
-ghost use Rattle.sheet.specs.Sheets.{Contents, bodies, read-sheet};
+ghost use Rattle.sheet.specs.Sheets.{Contents, each-or-none, bodies, read-sheet};
 ghost use Rattle.sheet.specs.Written.{Proper, sheet-text};
 use crate::bodies::read_levels;
 use crate::bodies::read_starts;
@@ -48,6 +49,7 @@ impl BlankSheet {
     // The lines after the counts.
     fn read_bodies(self, counts: Counts, text: &[u8]) -> Result<Sheet, Fault>
         requires few { ⌜ (counts .levels ≤ 64) × (counts .tasks ≤ 32) × (counts .starts ≤ 32) ⌝ }
+        requires matching { ⌜ each-or-none (counts .tasks) (counts .starts) ≡ true ⌝ }
         ensures { λ r. ⌜ Cases r (λ s. bodies counts (now (text .entry)) ≡ Ok (contents-of s)) (λ f. bodies counts (now (text .entry)) ≡ Err f) ⌝ }
     {
         let BlankSheet {

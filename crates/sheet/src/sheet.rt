@@ -1,9 +1,11 @@
 // Sheets, before and after they are read.
+ghost use mathlib.Core.Bool.{true};
 ghost use mathlib.Core.Path.{_≡_};
 ghost use Prim.Native.Nat.{_≤_};
 ghost use lib.ListN.{length};
 ghost use Rattle.std.specs.Of.Vec.{vec-cap, vec-len};
 ghost use Rattle.tasks.specs.Tables.{levels-of, tasks-of};
+ghost use Rattle.sheet.specs.Sheets.{each-or-none};
 use tasks::table::OpenTable;
 
 // The memory that a sheet is read into. The room for all that a sheet can say is there from the start.
@@ -23,4 +25,5 @@ pub struct Sheet {
     pub table: OpenTable,
     pub starts: Vec<u32>,
     ghost few: { vec-len starts ≤ 32 },
+    ghost matching: { each-or-none (length (tasks-of table)) (vec-len starts) ≡ true },
 }
