@@ -1,0 +1,4 @@
+// Speed units: what every unit promises, and two units that keep it.
+pub mod divider;
+pub mod divider_unit;
+pub mod unit;
