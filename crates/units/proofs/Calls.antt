@@ -40,6 +40,11 @@ busy-is u h = grind (arith, tells)
 refuses : (why : Option Refusal) (w : Refusal) (new u u′ : Meaning) (e : Fault) → why ≡ Some w → e ≡ fault-at w 0 0 → u′ ≡ u → Call-is why new u (Err e) u′
 refuses why w new u u′ e is of kept = rw is (ap Err of, kept)
 
+-- A call that answers a fault leaves what was there.
+pub stays : (why : Option Refusal) (new u : Meaning) (e : Fault) → answer why ≡ Err e → u ≡ unless why new u
+stays None new u e is = absurd (let z : _≡_ {A = ℕ} 0 1 = cc in omega arith)
+stays (Some w) new u e is = refl
+
 -- What holds of a call's functions holds of the call.
 of-call : (P : Result (Unit {0}) Fault → Meaning → Type 0) (why : Option Refusal) (new u : Meaning) (r : Result (Unit {0}) Fault) (u′ : Meaning) →
     Call-is why new u r u′ → P (answer why) (unless why new u) → P r u′

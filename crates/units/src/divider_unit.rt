@@ -2,10 +2,10 @@
 ghost use mathlib.Core.Path.{_≡_};
 ghost use Prim.Native.Nat.{_≤_};
 ghost use Rattle.std.specs.Results.{Cases};
-ghost use Rattle.std.specs.Vec.{made, refused};
+ghost use Rattle.std.specs.Vec.{refused};
 ghost use Rattle.fault.specs.declared.Refusal.the-variants.{BadDivider, UnitBusy};
 ghost use Rattle.fault.specs.Faults.{fault-at};
-ghost use Rattle.units.specs.Calls.{ask-with, tick-with};
+ghost use Rattle.units.specs.Calls.{Call-is, ask-refusal, ask-with, tick-with};
 ghost use Rattle.units.specs.Divider.{divides, divider-meaning, divider-nature};
 ghost use Rattle.units.specs.Meaning.{Ready, Busy, Asked, Ticked, off as nothing};
 use crate::divider::Divider;
@@ -66,7 +66,7 @@ pub impl SpeedUnit for Divider as DividerUnit {
         ensures does { λ r. ⌜ Asked (divider-nature (now (self .entry))) level (divider-meaning (now (self .entry))) r (divider-meaning (now (self .exit))) ⌝ }
         ensures fixed { λ _. ⌜ divider-nature (now (self .exit)) ≡ divider-nature (now (self .entry)) ⌝ }
         ensures kept { λ r. ⌜ refused r (λ _. now (self .exit) ≡ now (self .entry)) ⌝ }
-        ensures exact { λ r. ⌜ made r (λ _. divider-meaning (now (self .exit)) ≡ ask-with 0 level (divider-meaning (now (self .entry)))) ⌝ }
+        ensures exact { λ r. ⌜ Call-is (ask-refusal (divider-nature (now (self .entry))) level (divider-meaning (now (self .entry)))) (ask-with 0 level (divider-meaning (now (self .entry)))) (divider-meaning (now (self .entry))) r (divider-meaning (now (self .exit))) ⌝ }
     {
         self.free()?;
         if !self.takes(level) {

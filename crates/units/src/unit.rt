@@ -4,7 +4,7 @@ ghost use mathlib.Core.Path.{_≡_};
 ghost use Prim.Native.Nat.{ℕ, _≤_};
 ghost use Rattle.std.specs.Vec.{refused};
 ghost use Rattle.units.specs.Calls.{Calls-are-functions};
-ghost use Rattle.units.specs.Meaning.{Meaning, Nature, Asked, Rested, Ticked, off as nothing};
+ghost use Rattle.units.specs.Meaning.{Meaning, Nature, Asked, Rested, Ticked, works, off as nothing};
 use fault::Fault;
 
 // Where a unit stands: the level asked for, 0 when off; the ticks until it works; the ticks still asleep.
@@ -20,6 +20,19 @@ pub struct Standing {
 pub struct Allowances {
     pub raise: u32,
     pub wake: u32,
+}
+
+impl Standing {
+    // The level that the unit works at: the one asked for, once neither a rest nor a lag is left.
+    pub fn works(self) -> u32
+        ensures { λ r. ⌜ r ≡ works (record { asked = self .asked; lag = self .lag; rest = self .rest }) ⌝ }
+    {
+        if self.rest == 0 && self.lag == 0 {
+            self.asked
+        } else {
+            0
+        }
+    }
 }
 
 pub trait SpeedUnit {
