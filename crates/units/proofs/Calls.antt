@@ -57,8 +57,8 @@ module _ (n : Nature) (level : ℕ) (u : Meaning) where
       let P : Option Refusal → Type 0 = λ why. Asked n level u (answer why) (unless why (ask-with lag level u) u) in
       cond-both (ready u) _ _ P
       (λ e. let is = ready-is u e in cond-both (n .takes level) None (Some UnknownLevel) P
-        (λ t. record { ready = is; taken = t; asked = refl; rest = is .1; raised = λ h. grind (arith, tells); not-raised = λ h. grind (arith, tells) })
-        (λ t. (inr (is, t, refl), refl)))
+      (λ t. record { ready = is; taken = t; asked = refl; rest = is .1; raised = λ h. grind (arith, tells); not-raised = λ h. grind (arith, tells) })
+      (λ t. (inr (is, t, refl), refl)))
       (λ e. (inl (busy-is u e, refl), refl))
 
   asked-as : (r : Result (Unit {0}) Fault) (u′ : Meaning) → Asked n level u r u′ →
@@ -85,8 +85,8 @@ module _ (ticks : ℕ) (u : Meaning) where
       let P : Option Refusal → Type 0 = λ why. Rested ticks u (answer why) (unless why (rest-for ticks u) u) in
       cond-both (ready u) _ _ P
       (λ e. let is = ready-is u e in cond-both (ltb 0 ticks && (leb ticks 65535 && ltb 0 (u .asked))) None (Some BadRest) P
-        (λ t. record { ready = is; some = grind (arith, tells); most = grind (arith, tells); on = grind (arith, tells); asked = refl; lag = is .0; rest = refl })
-        (λ t. (inr (is, grind (arith, tells), refl), refl)))
+      (λ t. record { ready = is; some = grind (arith, tells); most = grind (arith, tells); on = grind (arith, tells); asked = refl; lag = is .0; rest = refl })
+      (λ t. (inr (is, grind (arith, tells), refl), refl)))
       (λ e. (inl (busy-is u e, refl), refl))
 
   rested-as : (r : Result (Unit {0}) Fault) (u′ : Meaning) → Rested ticks u r u′ → Call-is (rest-refusal ticks u) (rest-for ticks u) u r u′
@@ -98,7 +98,7 @@ module _ (ticks : ℕ) (u : Meaning) where
       ⊎-elim
       (λ w. refuses _ UnitBusy (rest-for ticks u) u u′ e (simp (is-busy u (w .0))) (w .1) kept)
       (λ w. let cannot : (ltb 0 ticks && (leb ticks 65535 && ltb 0 (u .asked))) ≡ false = grind (arith, tells) in
-        refuses _ BadRest (rest-for ticks u) u u′ e (simp (is-ready u (w .0), cannot)) (w .2) kept)
+      refuses _ BadRest (rest-for ticks u) u u′ e (simp (is-ready u (w .0), cannot)) (w .2) kept)
       why
 
   -- A rest, by its relation and by its functions.

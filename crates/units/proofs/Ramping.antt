@@ -21,7 +21,6 @@ use Rattle.units.specs.declared.ramp.Event.the-variants.{Tick}
 use Rattle.units.specs.declared.ramp.State.{State}
 use Rattle.units.specs.declared.ramp.State.the-variants.{Asleep}
 
-
 -- What a search through a list answers.
 pub found-stands : (xs : List ℕ) (level : ℕ) (r : Bool) → Some-of (λ y t. Decides t (y ≡ level)) xs r → r ≡ stands xs level
 found-stands xs level r h =

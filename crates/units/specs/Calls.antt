@@ -54,7 +54,7 @@ Call-is why new u r u′ = (r ≡ answer why) × (u′ ≡ unless why new u)
 -- the allowance.
 pub record Calls-are-functions : Type 0 where
   pub ask : (n : Nature) (level : ℕ) (u : Meaning) (r : Result (Unit {0}) Fault) (u′ : Meaning) →
-    Asked n level u r u′ ↔ ((lag : ℕ) × (lag ≤ n .raise) × Call-is (ask-refusal n level u) (ask-with lag level u) u r u′)
+      Asked n level u r u′ ↔ ((lag : ℕ) × (lag ≤ n .raise) × Call-is (ask-refusal n level u) (ask-with lag level u) u r u′)
   pub rest : (ticks : ℕ) (u : Meaning) (r : Result (Unit {0}) Fault) (u′ : Meaning) →
-    Rested ticks u r u′ ↔ Call-is (rest-refusal ticks u) (rest-for ticks u) u r u′
+      Rested ticks u r u′ ↔ Call-is (rest-refusal ticks u) (rest-for ticks u) u r u′
   pub tick : (n : Nature) (u u′ : Meaning) → Ticked n u u′ ↔ ((lag : ℕ) × (lag ≤ n .wake) × (u′ ≡ tick-with lag u))
