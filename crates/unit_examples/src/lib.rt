@@ -2,6 +2,4 @@
 pub mod counted;
 pub mod counted_unit;
 #[cfg(test)]
-mod dividers;
-#[cfg(test)]
-mod ramps;
+mod examples;
