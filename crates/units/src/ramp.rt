@@ -9,10 +9,10 @@ use tasks::level_list::LevelList;
 pub(crate) enum State {
     Off,
     Working(u32),
-    // On the way to a level, for some ticks more.
-    Changing(u32, u32),
-    // Asleep at a level, for some ticks more.
-    Asleep(u32, u32),
+    // On the way to a level.
+    Changing { level: u32, left: u32 },
+    // Asleep at a level.
+    Asleep { level: u32, left: u32 },
 }
 
 // What can happen to a ramp.

@@ -47,7 +47,7 @@ fn reaching(level: u32, lag: u32) -> State
     if lag == 0 {
         State::Working(level)
     } else {
-        State::Changing(level, lag)
+        State::Changing { level, left: lag }
     }
 }
 
@@ -95,24 +95,26 @@ impl Ramp {
     {
         match (self.state, event) {
             (_, Event::Off) => Ok(State::Off),
-            (State::Off, Event::Tick) => Ok(State::Off),
-            (State::Working(level), Event::Tick) => Ok(State::Working(level)),
-            (State::Changing(level, left), Event::Tick) => Ok(reaching(level, left - 1)),
-            (State::Asleep(level, left), Event::Tick) => {
+            (State::Off | State::Working(_), Event::Tick) => Ok(self.state),
+            (State::Changing { level, left }, Event::Tick) => Ok(reaching(level, left - 1)),
+            (State::Asleep { level, left }, Event::Tick) => {
                 if left > 1 {
-                    return Ok(State::Asleep(level, left - 1));
+                    return Ok(State::Asleep {
+                        level,
+                        left: left - 1,
+                    });
                 }
                 Ok(self.climbing(0, level))
             }
-            (State::Changing(_, _), _) | (State::Asleep(_, _), _) => {
+            (State::Changing { .. } | State::Asleep { .. }, _) => {
                 Err(Fault::new(Refusal::UnitBusy, 0, 0))
             }
             (State::Off, Event::Ask(level)) => self.asked(0, level),
             (State::Working(old), Event::Ask(level)) => self.asked(old, level),
             (State::Working(level), Event::Rest(ticks)) if ticks > 0 && ticks <= 65_535 => {
-                Ok(State::Asleep(level, ticks))
+                Ok(State::Asleep { level, left: ticks })
             }
-            (State::Off, Event::Rest(_)) | (State::Working(_), Event::Rest(_)) => {
+            (State::Off | State::Working(_), Event::Rest(_)) => {
                 Err(Fault::new(Refusal::BadRest, 0, 0))
             }
         }
@@ -174,8 +176,8 @@ pub impl SpeedUnit for Ramp as RampUnit {
         let (asked, lag, rest) = match self.state {
             State::Off => (0, 0, 0),
             State::Working(level) => (level, 0, 0),
-            State::Changing(level, left) => (level, left, 0),
-            State::Asleep(level, left) => (level, 0, left),
+            State::Changing { level, left } => (level, left, 0),
+            State::Asleep { level, left } => (level, 0, left),
         };
         Standing { asked, lag, rest }
     }
