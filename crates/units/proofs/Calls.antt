@@ -1,11 +1,11 @@
 -- The calls as relations are the calls as functions.
-use mathlib.Core.Bool.{Bool, true, false, cond, _&&_}
+use mathlib.Core.Bool.{true, false, _&&_}
 use mathlib.Core.Logic.{_⊎_, inl, inr, ⊎-elim, _↔_}
 use mathlib.Core.Path.{_≡_, refl, sym, ap, ap₂, subst, _∙_}
-use Prim.Native.Nat.{ℕ, _+_, _-_, _≤_, _<_, min}
+use Prim.Native.Nat.{ℕ, _-_, _≤_, min}
 use native.Mathlib.Omega.{arith}
-use lib.Dec.{eqb, leb, ltb}
-use Rattle.std.proofs.shelf.Tests.{cond-both, cond-true, cond-false}
+use lib.Dec.{leb, ltb}
+use Rattle.std.proofs.shelf.Tests.{cond-both}
 use Rattle.std.proofs.shelf.Ways.{tells}
 use Rattle.std.specs.declared.option.Option.{Option}
 use Rattle.std.specs.declared.option.Option.the-variants.{Some, None}
@@ -16,7 +16,7 @@ use Rattle.fault.specs.declared.Refusal.{Refusal}
 use Rattle.fault.specs.declared.Refusal.the-variants.{UnitBusy, UnknownLevel, BadRest}
 use Rattle.fault.specs.Faults.{fault-at}
 use Rattle.units.specs.Calls.{ask-with, rest-for, tick-with, ask-refusal, rest-refusal, answer, unless, Call-is}
-use Rattle.units.specs.Meaning.{Meaning, Nature, ready, Ready, Busy, Asked, Ask-taken, Rested, Rest-taken, Ticked}
+use Rattle.units.specs.Meaning.{Meaning, Nature, ready, Ready, Busy, Asked, Rested, Ticked}
 
 -- Meanings with the same three numbers are the same.
 same : (u v : Meaning) → u .asked ≡ v .asked → u .lag ≡ v .lag → u .rest ≡ v .rest → u ≡ v

@@ -1,6 +1,5 @@
 -- The states of a ramp.
 use mathlib.Core.Bool.{Bool, true, _&&_}
-use Prim.Native.Nat.{ℕ}
 use lib.Dec.{ltb}
 use Rattle.units.specs.Meaning.{Meaning, off}
 use Rattle.units.specs.declared.ramp.State.{State}

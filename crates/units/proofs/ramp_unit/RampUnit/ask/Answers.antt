@@ -1,6 +1,6 @@
 use mathlib.Core.Path.{ap}
 use Rattle.std.proofs.shelf.Sums.{countBy-le-length}
-use Rattle.units.specs.Ramp.{between, ramps, ramp-meaning, ramp-nature}
+use Rattle.units.specs.Ramp.{ramps, ramp-meaning, ramp-nature}
 use Rattle.tasks.specs.Tables.{listed}
 use Rattle.units.proofs.Calls.{ask-is}
 use Rattle.units.proofs.ramp_unit.RampUnit.ask.Needs as need
