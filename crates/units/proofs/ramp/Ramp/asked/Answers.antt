@@ -7,7 +7,7 @@ use Rattle.units.proofs.ramp.Ramp.asked.Needs as need
 pub climbing-requires : need.climbing-requires
 climbing-requires c κs =
     let ramp = c .args .self .now in
-    stands-range 0 (listed (ramp .levels)) (c .args .level) (ramp .levels .listed) (sym (c .if-not-takes .ensures tt)) .0
+    stands-range 0 (listed (ramp .levels)) (c .args .level) (ramp .levels .rising) (sym (c .if-not-takes .ensures tt)) .0
 
 pub returns : need.returns
 returns c =
