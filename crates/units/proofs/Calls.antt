@@ -1,8 +1,8 @@
 -- The calls as relations are the calls as functions.
 use mathlib.Core.Bool.{true, false, _&&_}
-use mathlib.Core.Logic.{_⊎_, inl, inr, ⊎-elim, _↔_}
+use mathlib.Core.Logic.{inl, inr, ⊎-elim, _↔_}
 use mathlib.Core.Path.{_≡_, refl, sym, ap, ap₂, subst, _∙_}
-use Prim.Native.Nat.{ℕ, _-_, _≤_, min}
+use Prim.Native.Nat.{ℕ, _≤_, min}
 use native.Mathlib.Omega.{arith}
 use lib.Dec.{leb, ltb}
 use Rattle.std.proofs.shelf.Tests.{cond-both}
@@ -41,9 +41,9 @@ refuses : (why : Option Refusal) (w : Refusal) (new u u′ : Meaning) (e : Fault
 refuses why w new u u′ e is of kept = rw is (ap Err of, kept)
 
 -- A call that answers a fault leaves what was there.
-pub stays : (why : Option Refusal) (new u : Meaning) (e : Fault) → answer why ≡ Err e → u ≡ unless why new u
+pub stays : (why : Option Refusal) (new u : Meaning) (e : Fault) → answer why ≡ Err e → Call-is why new u (Err e) u
 stays None new u e is = absurd (let z : _≡_ {A = ℕ} 0 1 = cc in omega arith)
-stays (Some w) new u e is = refl
+stays (Some w) new u e is = (sym is, refl)
 
 -- What holds of a call's functions holds of the call.
 of-call : (P : Result (Unit {0}) Fault → Meaning → Type 0) (why : Option Refusal) (new u : Meaning) (r : Result (Unit {0}) Fault) (u′ : Meaning) →
@@ -52,7 +52,7 @@ of-call P why new u r u′ (a, b) h = subst (P r) (sym b) (subst (λ q. P q (unl
 
 module _ (n : Nature) (level : ℕ) (u : Meaning) where
   -- The functions of an ask do what its relation says.
-  pub asks : (lag : ℕ) → lag ≤ n .raise → Asked n level u (answer (ask-refusal n level u)) (unless (ask-refusal n level u) (ask-with lag level u) u)
+  asks : (lag : ℕ) → lag ≤ n .raise → Asked n level u (answer (ask-refusal n level u)) (unless (ask-refusal n level u) (ask-with lag level u) u)
   asks lag le =
       let P : Option Refusal → Type 0 = λ why. Asked n level u (answer why) (unless why (ask-with lag level u) u) in
       cond-both (ready u) _ _ P
@@ -61,6 +61,7 @@ module _ (n : Nature) (level : ℕ) (u : Meaning) where
       (λ t. (inr (is, t, refl), refl)))
       (λ e. (inl (busy-is u e, refl), refl))
 
+  -- What the relation says is what the functions do.
   asked-as : (r : Result (Unit {0}) Fault) (u′ : Meaning) → Asked n level u r u′ →
       (lag : ℕ) × (lag ≤ n .raise) × Call-is (ask-refusal n level u) (ask-with lag level u) u r u′
   asked-as (Ok x) u′ t =
@@ -80,7 +81,7 @@ module _ (n : Nature) (level : ℕ) (u : Meaning) where
 
 module _ (ticks : ℕ) (u : Meaning) where
   -- The functions of a rest do what its relation says.
-  pub rests : Rested ticks u (answer (rest-refusal ticks u)) (unless (rest-refusal ticks u) (rest-for ticks u) u)
+  rests : Rested ticks u (answer (rest-refusal ticks u)) (unless (rest-refusal ticks u) (rest-for ticks u) u)
   rests =
       let P : Option Refusal → Type 0 = λ why. Rested ticks u (answer why) (unless why (rest-for ticks u) u) in
       cond-both (ready u) _ _ P
@@ -89,6 +90,7 @@ module _ (ticks : ℕ) (u : Meaning) where
       (λ t. (inr (is, grind (arith, tells), refl), refl)))
       (λ e. (inl (busy-is u e, refl), refl))
 
+  -- What the relation says is what the functions do.
   rested-as : (r : Result (Unit {0}) Fault) (u′ : Meaning) → Rested ticks u r u′ → Call-is (rest-refusal ticks u) (rest-for ticks u) u r u′
   rested-as (Ok x) u′ t =
       let can : (ltb 0 ticks && (leb ticks 65535 && ltb 0 (u .asked))) ≡ true = grind (arith, tells) in
@@ -107,13 +109,13 @@ module _ (ticks : ℕ) (u : Meaning) where
 
 module _ (n : Nature) (u : Meaning) where
   -- The function of a tick does what its relation says.
-  pub ticks : (lag : ℕ) → lag ≤ n .wake → Ticked n u (tick-with lag u)
-  ticks lag le =
+  ticked : (lag : ℕ) → lag ≤ n .wake → Ticked n u (tick-with lag u)
+  ticked lag le =
       record { asked = refl; rest = refl; wakes = λ e. grind (arith, tells); sleeps = λ e. grind (arith, tells); awake = λ e. grind (arith, tells) }
 
   -- A tick, by its relation and by its function.
   pub tick-is : (u′ : Meaning) → Ticked n u u′ ↔ ((lag : ℕ) × (lag ≤ n .wake) × (u′ ≡ tick-with lag u))
   tick-is u′ = (
     λ t. (min (u′ .lag) (n .wake), omega arith, same _ _ (t .asked) (grind (arith, tells)) (t .rest)),
-    λ (lag, le, e). subst (Ticked n u) (sym e) (ticks lag le),
+    λ (lag, le, e). subst (Ticked n u) (sym e) (ticked lag le),
   )

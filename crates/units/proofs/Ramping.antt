@@ -39,7 +39,7 @@ stands-range low (x ∷ xs) level asc h =
     (or-cases (eqb x level) (stands xs level) h)
 
 -- No level is above another and up to a lower one.
-pub between-none : (low high : ℕ) → high ≤ low → (xs : List ℕ) → between low high xs ≡ 0
+between-none : (low high : ℕ) → high ≤ low → (xs : List ℕ) → between low high xs ≡ 0
 between-none low high h [] = refl
 between-none low high h (x ∷ xs) =
     let e = between-none low high h xs in

@@ -1,6 +1,5 @@
 // The ramp as a speed unit: it takes its own levels, and its lags count them.
 ghost use mathlib.Core.Bool.{true};
-ghost use mathlib.Core.List.{[]};
 ghost use mathlib.Core.Path.{_≡_};
 ghost use Prim.Native.Nat.{_≤_};
 ghost use lib.ListN.{length};
@@ -11,7 +10,7 @@ ghost use Rattle.fault.specs.Faults.{fault-at};
 ghost use Rattle.tasks.specs.Tables.{listed};
 ghost use Rattle.units.specs.Calls.{Call-is, ask-refusal, ask-with, tick-with};
 ghost use Rattle.units.specs.Meaning.{Asked, Ticked, off as nothing};
-ghost use Rattle.units.specs.Ramp.{between, ramps, ramp-meaning, ramp-nature, ramp-refusal, ramp-after, Moves};
+ghost use Rattle.units.specs.Ramp.{stands, between, ramps, ramp-meaning, ramp-nature, ramp-refusal, ramp-after, Moves};
 ghost use Rattle.units.specs.States.{lasts, state-meaning};
 use crate::ramp::Event;
 use crate::ramp::Ramp;
@@ -23,6 +22,13 @@ use fault::Fault;
 use fault::Refusal;
 use tasks::back::Back;
 use tasks::level_list::LevelList;
+
+// Whether a level stands among others.
+fn stands_in(levels: &[u32], level: u32) -> bool
+    ensures { λ r. ⌜ r ≡ stands (now (levels .entry)) level ⌝ }
+{
+    levels.contains(&level)
+}
 
 // How many levels are above `low` and up to `high`.
 fn levels_between(levels: &[u32], low: u32, high: u32) -> u32
@@ -55,8 +61,8 @@ impl Ramp {
     // A ramp that is off. An empty list is refused, and given back.
     pub fn new(levels: LevelList) -> Result<Ramp, Back<LevelList>>
         ensures { λ r. ⌜ Cases r
-            (λ p. (listed levels ≡ [] → ⊥) × (ramp-meaning p ≡ nothing) × (ramp-nature p ≡ ramps (listed levels)))
-            (λ b. (listed levels ≡ []) × (b .fault ≡ fault-at BadCount 0 0) × (b .given ≡ levels)) ⌝ }
+            (λ p. (1 ≤ length (listed levels)) × (ramp-meaning p ≡ nothing) × (ramp-nature p ≡ ramps (listed levels)))
+            (λ b. (length (listed levels) ≡ 0) × (b .fault ≡ fault-at BadCount 0 0) × (b .given ≡ levels)) ⌝ }
     {
         if levels.as_slice().is_empty() {
             return Err(Back {
@@ -123,7 +129,7 @@ impl Ramp {
     // Moves by an event. A refusal leaves the ramp as it was.
     fn on(&mut self, event: Event) -> Result<(), Fault>
         ensures does { λ r. ⌜ Call-is (ramp-refusal (listed (now (self .entry) .levels)) event (ramp-meaning (now (self .entry)))) (ramp-after (listed (now (self .entry) .levels)) event (ramp-meaning (now (self .entry)))) (ramp-meaning (now (self .entry))) r (ramp-meaning (now (self .exit))) ⌝ }
-        ensures fixed { λ _. ⌜ now (self .exit) .levels ≡ now (self .entry) .levels ⌝ }
+        ensures fixed { λ _. ⌜ ramp-nature (now (self .exit)) ≡ ramp-nature (now (self .entry)) ⌝ }
         ensures kept { λ r. ⌜ refused r (λ _. now (self .exit) ≡ now (self .entry)) ⌝ }
     {
         self.state = self.next(event)?;
@@ -142,7 +148,7 @@ pub impl SpeedUnit for Ramp as RampUnit {
     }
 
     fn takes(&self, level: u32) -> bool {
-        self.levels.as_slice().contains(&level)
+        stands_in(self.levels.as_slice(), level)
     }
 
     // A raise takes a lag tick for each level on the way.

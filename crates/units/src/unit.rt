@@ -15,7 +15,7 @@ pub struct Standing {
     pub rest: u32,
 }
 
-// The most ticks that a unit takes to work after a raise, and after a rest.
+// How long a unit may lag after a raise, and after a rest.
 #[derive(Clone, Copy, PartialEq, Eq, Debug)]
 pub struct Allowances {
     pub raise: u32,
@@ -35,8 +35,9 @@ impl Standing {
     }
 }
 
+// What every speed unit promises. The questions and the refusals change nothing.
 pub trait SpeedUnit {
-    // The numbers that the calls change.
+    // What the calls change.
     ghost meaning: { Self → Meaning };
 
     // What is fixed for the unit's life.
@@ -48,6 +49,7 @@ pub trait SpeedUnit {
     // A level that is taken is from 1 to 1,000.
     law levels: { (u : Self) (level : ℕ) → nature u .takes level ≡ true → (1 ≤ level) × (level ≤ 1000) };
 
+    // The most ticks of lag after a raise, and after a rest.
     fn allowances(&self) -> Allowances
         ensures raise { λ r. ⌜ r .raise ≡ nature (now (self .entry)) .raise ⌝ }
         ensures wake { λ r. ⌜ r .wake ≡ nature (now (self .entry)) .wake ⌝ }
@@ -79,6 +81,7 @@ pub trait SpeedUnit {
         ensures does { λ _. ⌜ meaning (now (self .exit)) ≡ nothing ⌝ }
         ensures fixed { λ _. ⌜ nature (now (self .exit)) ≡ nature (now (self .entry)) ⌝ };
 
+    // The numbers that the calls change.
     fn standing(&self) -> Standing
         ensures asked { λ r. ⌜ r .asked ≡ meaning (now (self .entry)) .asked ⌝ }
         ensures lag { λ r. ⌜ r .lag ≡ meaning (now (self .entry)) .lag ⌝ }
