@@ -1,4 +1,6 @@
 // What every refusal carries: which rule was broken, the line and the row that it is for, and the layer whose rule it is.
+#![tactic(auto)]
+
 ghost use Rattle.std.specs.Prelude.{◌≡◌};
 ghost use Rattle.fault.specs.Numbers.{number_of, layer_of};
 ghost use Rattle.fault.specs.Faults.{fault_at};

@@ -1,5 +1,7 @@
 // Reads a sheet from standard input, and prints the listing of its table at the lowest level that keeps every deadline, or
 // one line that says what is wrong and where.
+#![tactic(auto)]
+
 ghost use Rattle.std.specs.Prelude.{◌≤◌, length, IfOk};
 
 use sheet::answer;

@@ -1,5 +1,7 @@
 // The run of a plan on a speed unit, as definitions, with what is proved of every run. The types that the definitions share with the code stand
 // here too.
+#![tactic(auto)]
+
 ghost use Rattle.machine.specs.Promises.{EveryRunIsLawful, MadeWhereTaken};
 
 pub mod job;

@@ -1,5 +1,7 @@
 // One ordered queue, for every kind of entry with a total order. Its memory is slots that each call is lent, of which the first `len` hold the
 // entries, first to come out first; where `len` is more than there are slots, all of them do.
+#![tactic(auto)]
+
 ghost use Rattle.std.specs.Prelude.{◌≡◌, ℕ, ◌+◌, ◌-◌, ◌<◌, ◌≤◌, min, Bool, true, ◌∷◌, length, take, drop, OnOk};
 ghost use Rattle.queue.specs.Entries.{sooner};
 ghost use Rattle.queue.specs.Order.{Order, ordered, sorted};

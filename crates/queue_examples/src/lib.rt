@@ -1,4 +1,6 @@
 // Examples of the queue, at rows by their number and at releases by tick and then row.
+#![tactic(auto)]
+
 ghost use Rattle.queue_examples.specs.Rows.{smaller};
 ghost use Rattle.std.proofs.Common.{rules};
 

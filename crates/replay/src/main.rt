@@ -1,5 +1,7 @@
 // Runs the table of a sheet on a speed unit, by the words on standard input, and prints what is replied to each word; or one line that says what is
 // refused and where.
+#![tactic(auto)]
+
 mod order;
 
 use crate::order::{UnitOrder, read_order};

@@ -1,4 +1,6 @@
 // The run of an admitted plan on a speed unit.
+#![tactic(auto)]
+
 mod beginning;
 mod calls;
 mod inner;

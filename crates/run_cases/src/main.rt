@@ -1,5 +1,7 @@
 // Worked runs of a plan with three rows, on a divider and on a ramp, and one whose first releases are too early. Where the run stands is printed at
 // the moments of interest.
+#![tactic(auto)]
+
 use anyhow::anyhow;
 use fault::Fault;
 use machine::word::{Event, Word};

@@ -1,4 +1,6 @@
 // The text of a run: reads what is said to it, word by word, and writes what it replies.
+#![tactic(auto)]
+
 mod lines;
 mod replies;
 mod said;

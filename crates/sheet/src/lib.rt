@@ -1,4 +1,6 @@
 // The text form of a table: reads a sheet into a table and first releases, and writes the listing of what was admitted.
+#![tactic(auto)]
+
 mod bodies;
 mod counts;
 mod items;

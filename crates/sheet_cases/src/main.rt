@@ -1,4 +1,6 @@
 // A table of sheets and what is answered to them: each argument names a file, and its answer is printed under its name.
+#![tactic(auto)]
+
 ghost use Rattle.sheet_cases.specs.Cases.{WorkedCases};
 
 use sheet::answer;

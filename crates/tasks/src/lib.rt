@@ -1,4 +1,6 @@
 // Tables of periodic tasks and speed levels, and admission at the lowest level that keeps every deadline.
+#![tactic(auto)]
+
 mod adding;
 mod admission;
 pub mod answer;

@@ -1,4 +1,6 @@
 // Fixed-priority schedulability at one level. Each function's contract is a theorem, so that the check asks for its proof.
+#![tactic(auto)]
+
 ghost use Rattle.theory.specs.Theorems.{PointsSuffice, NeverLate, NeverOverwritten, MustBeLate, TestIsExact};
 
 // A row passes at one of its points just when its demand fits at any time up to its deadline.

@@ -1,4 +1,6 @@
 // Computed witnesses that the promises are not empty: each function's contract is one, so that the check asks for its proof.
+#![tactic(auto)]
+
 ghost use Rattle.witnesses.specs.Begins.{BeginsRefused};
 ghost use Rattle.witnesses.specs.Lateness.{LatenessHolds};
 ghost use Rattle.witnesses.specs.Lower.{LowerLevelLate};

@@ -7,7 +7,7 @@ use Rattle.queue.proofs.remove.Goals as goal
 
 pub returns : goal.returns
 returns g c =
-    let front = turned_out c.args.slots.now c.args.n _ _ _ c.requires.some c.requires.within c.index-slots-0.is c.rotate-left.ensures.after in
+    let front = turned_out c.args.slots.now c.args.n _ _ _ c.requires.some c.requires.within c.index-slots-0.is c.rotate_left.ensures.after in
     record {
       front = front;
       spare = λ m le. search (rules, overwrites);

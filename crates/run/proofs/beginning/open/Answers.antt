@@ -4,10 +4,10 @@ use Rattle.run.proofs.Begun.{may_begin, opens, begins}
 use Rattle.run.proofs.Planning.{planned}
 use Rattle.run.proofs.beginning.open.Goals as goal
 
-pub ask-admitted-requires : goal.ask-admitted-requires
-ask-admitted-requires g c =
+pub ask_admitted-requires : goal.ask_admitted-requires
+ask_admitted-requires g c =
     record {
-      may = may_begin (g.U.SpeedUnit.nature c.args.unit.now) (plan_of c.args.plan.now) c.args.starts.now (g.U.SpeedUnit.meaning c.args.unit.now) (planned c.args.plan.now) c.in-ok-check.ensures.does;
+      may = may_begin (g.U.SpeedUnit.nature c.args.unit.now) (plan_of c.args.plan.now) c.args.starts.now (g.U.SpeedUnit.meaning c.args.unit.now) (planned c.args.plan.now) c.in_ok-check.ensures.does;
     }
 
 pub returns : goal.returns
@@ -15,10 +15,10 @@ returns g c =
     let x = g.U.SpeedUnit.nature c.args.unit.now in
     let p = plan_of c.args.plan.now in
     let allowed = c.allowances-allowed in
-    let a = c.in-ok-ask-admitted.ensures in
+    let a = c.in_ok-ask_admitted.ensures in
     let b = c.settle.ensures in
     record {
-      does = begins x (g.U.SpeedUnit.nature c.ask-admitted.new.unit) p c.args.starts.now (g.U.SpeedUnit.meaning c.args.unit.now) (g.U.SpeedUnit.meaning c.ask-admitted.new.unit) _ _ (planned c.args.plan.now) c.in-ok-check.ensures.does a.does a.fixed
-          (opens x p c.args.starts.now (inner_of c.in-ok-inner.inner) allowed.result.raise allowed.result.wake allowed.ensures.raise allowed.ensures.wake c.in-ok-inner.ensures) b.does;
+      does = begins x (g.U.SpeedUnit.nature c.ask_admitted.new.unit) p c.args.starts.now (g.U.SpeedUnit.meaning c.args.unit.now) (g.U.SpeedUnit.meaning c.ask_admitted.new.unit) _ _ (planned c.args.plan.now) c.in_ok-check.ensures.does a.does a.fixed
+          (opens x p c.args.starts.now (inner_of c.in_ok-inner.inner) allowed.result.raise allowed.result.wake allowed.ensures.raise allowed.ensures.wake c.in_ok-inner.ensures) b.does;
       fixed = b.fixed ∙ a.fixed;
     }

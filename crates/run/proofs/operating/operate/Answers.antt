@@ -8,12 +8,12 @@ returns g c =
     let unit = g.U.SpeedUnit in
     let admitted = c.in-Ok-admit.ensures in
     let begun = c.in-Ok-begin.ensures in
-    let said = c.say-all.ensures in
-    let last = moment c.say-all.new.run (unit.meaning c.say-all.new.unit) in
+    let said = c.say_all.ensures in
+    let last = moment c.say_all.new.run (unit.meaning c.say_all.new.unit) in
     let none : vec_items c.in-Ok.events ≡ [] = search rules in
-    let reached = from_begin (unit.nature c.args.unit.now) (unit.nature c.begin.new.unit) c.in-Ok-admit.plan c.in-Ok-begin.begun.0.plan c.args.starts.now (unit.meaning c.args.unit.now) (vec_items c.in-Ok.events) (vec_items c.say-all.new.events) (moment c.in-Ok-begin.begun.0 (unit.meaning c.begin.new.unit)) last
+    let reached = from_begin (unit.nature c.args.unit.now) (unit.nature c.begin.new.unit) c.in-Ok-admit.plan c.in-Ok-begin.begun.0.plan c.args.starts.now (unit.meaning c.args.unit.now) (vec_items c.in-Ok.events) (vec_items c.say_all.new.events) (moment c.in-Ok-begin.begun.0 (unit.meaning c.begin.new.unit)) last
     begun.fixed begun.does.0 none said.promise begun.does.1 in
-    let end = off_numbers c.standing.result (unit.meaning c.stand-down.new.unit) c.standing.ensures.asked c.standing.ensures.lag c.standing.ensures.rest c.stand-down.ensures.off in
+    let end = off_numbers c.standing.result (unit.meaning c.stand_down.new.unit) c.standing.ensures.asked c.standing.ensures.lag c.standing.ensures.rest c.stand_down.ensures.off in
     record {
       does = operated (unit.nature c.args.unit.now) c.args.table c.args.starts.now (unit.meaning c.args.unit.now) c.args.words.now c.in-Ok-admit.plan _ last
           admitted.answer.1 admitted.answer.2 c.level-level.ensures.is admitted.lowest (simp none at said.said) reached end;

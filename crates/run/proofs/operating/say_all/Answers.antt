@@ -7,7 +7,7 @@ pub loop-word-preserved : goal.loop-word-preserved
 loop-word-preserved g c =
     let i = c.loop-word.invariant in
     let e = c.say-reply.ensures in
-    let p = c.push-reserved.ensures in (
+    let p = c.push_reserved.ensures in (
       e.fixed ∙ i.0,
       e.plan ∙ i.1,
       omega (arith, p.len, i.2),

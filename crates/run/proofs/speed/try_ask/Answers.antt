@@ -7,5 +7,5 @@ pub returns : goal.returns
 returns g c =
     let may : may_ask (g.U.SpeedUnit.nature c.args.unit.now) c.args.level (g.U.SpeedUnit.meaning c.args.unit.now) ≡ true = search rules in
     let (taken, (lag, le, is)) = asks _ c.args.level _ c.ask.result _ may c.ask.ensures.does in
-    let yes : c.is-ok.result ≡ true = c.is-ok.ensures.value ∙ ap is_ok taken in
+    let yes : c.is_ok.result ≡ true = c.is_ok.ensures.value ∙ ap is_ok taken in
     record { asks = yes ∙ sym may; does = (lag, le, simp yes is); fixed = c.ask.ensures.fixed }

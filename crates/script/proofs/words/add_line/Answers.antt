@@ -23,4 +23,4 @@ returns-then-times-before c = let e = c.args.words.now.ok.0 in record { few = tt
 pub returns : goal.returns
 returns c =
     let e = c.args.words.now.ok.0 in
-    record { few = search rules; words = added c.args.number _ c.args.line.now c.in-Some.said (sym c.in-Some.ensures) e (ap (λ k. k + c.in-Some.said.times) c.len-before.ensures) (omega arith) c.if-is-err.ensures.negation c.resize.ensures.items }
+    record { few = search rules; words = added c.args.number _ c.args.line.now c.in-Some.said (sym c.in-Some.ensures) e (ap (λ k. k + c.in-Some.said.times) c.len-before.ensures) (omega arith) c.if-is_err.ensures.negation c.resize.ensures.items }

@@ -5,19 +5,19 @@ use Rattle.sheet.proofs.bodies.read_levels.Goals as goal
 pub loop-i-init : goal.loop-i-init
 loop-i-init c = (along_none _ _ _ _ _ _ c.requires.empty, search rules)
 
-pub returns-in-err-level : goal.returns-in-err-level
-returns-in-err-level c =
-    let e = along_item _ _ _ _ _ _ _ _ c.loop-i.invariant.0 c.loop-i-test.true c.in-err-level.ensures in
+pub returns-in_err-level : goal.returns-in_err-level
+returns-in_err-level c =
+    let e = along_item _ _ _ _ _ _ _ _ c.loop-i.invariant.0 c.loop-i-test.true c.in_err-level.ensures in
     search rules
 
-pub returns-in-err-add-level : goal.returns-in-err-add-level
-returns-in-err-add-level c =
-    let e = along_check _ _ _ _ _ _ _ _ c.loop-i.invariant.0 c.loop-i-test.true c.in-ok-level.ensures c.in-err-add-level.ensures.levels.0 in
+pub returns-in_err-add_level : goal.returns-in_err-add_level
+returns-in_err-add_level c =
+    let e = along_check _ _ _ _ _ _ _ _ c.loop-i.invariant.0 c.loop-i-test.true c.in_ok-level.ensures c.in_err-add_level.ensures.levels.0 in
     search rules
 
 pub loop-i-preserved : goal.loop-i-preserved
 loop-i-preserved c =
-    let e = along_more _ _ _ _ _ _ _ _ c.loop-i.invariant.0 c.loop-i-test.true c.in-ok-level.ensures c.in-ok-add-level.ensures.levels.0 in
+    let e = along_more _ _ _ _ _ _ _ _ c.loop-i.invariant.0 c.loop-i-test.true c.in_ok-level.ensures c.in_ok-add_level.ensures.levels.0 in
     search rules
 
 pub returns : goal.returns

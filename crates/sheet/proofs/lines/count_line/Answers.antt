@@ -11,11 +11,11 @@ compared word head r h = same_from_decides _ _ (compares_Decides same (search ru
 pub returns-then-ne : goal.returns-then-ne
 returns-then-ne c =
     let h = c.ne.ensures in
-    let e = compared c.args.word.now c.in-ok-head.head.now h.0 (slice_eq-Decides Decides-eqb _ _ _ h.1) in
+    let e = compared c.args.word.now c.in_ok-head.head.now h.0 (slice_eq-Decides Decides-eqb _ _ _ h.1) in
     search rules
 
 pub returns : goal.returns
 returns c =
     let h = c.ne.ensures in
-    let e = compared c.args.word.now c.in-ok-head.head.now h.0 (slice_eq-Decides Decides-eqb _ _ _ h.1) in
+    let e = compared c.args.word.now c.in_ok-head.head.now h.0 (slice_eq-Decides Decides-eqb _ _ _ h.1) in
     search rules

@@ -2,14 +2,14 @@ use Rattle.std.proofs.Common.{rules}
 use Rattle.sheet.proofs.Promises.{answers_fault, answers_plan, answers_late}
 use Rattle.sheet.proofs.reply.plan_of.Goals as goal
 
-pub returns-in-err-sheet : goal.returns-in-err-sheet
-returns-in-err-sheet c =
-    let e = answers_fault c.args.bytes.now _ c.in-err-sheet.ensures.value in
+pub returns-in_err-sheet : goal.returns-in_err-sheet
+returns-in_err-sheet c =
+    let e = answers_fault c.args.bytes.now _ c.in_err-sheet.ensures.value in
     search rules
 
 pub returns-in-Ok : goal.returns-in-Ok
 returns-in-Ok c =
-    let read = c.in-ok-sheet.ensures.value in
+    let read = c.in_ok-sheet.ensures.value in
     let admit = c.in-Ok.ensures in
     record {
       value = search rules;
@@ -18,7 +18,7 @@ returns-in-Ok c =
 
 pub returns : goal.returns
 returns c =
-    let read = c.in-ok-sheet.ensures.value in
+    let read = c.in_ok-sheet.ensures.value in
     let admit = c.in-Err.ensures in
     record {
       value = search rules;

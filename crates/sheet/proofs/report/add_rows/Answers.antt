@@ -13,7 +13,7 @@ pub loop-i-preserved : goal.loop-i-preserved
 loop-i-preserved c =
     let answer : Answer = get_or c.args.answers.now c.loop-i.i (record { point = 0; demand = 0 }) in
     let next = at_drop_more (λ l. rows_text (c.loop-i.i + 1) (map point_demand l)) c.args.answers.now c.loop-i.i (record { point = 0; demand = 0 }) c.loop-i-test.true in
-    moved (string_bytes c.loop-i.text) (row_text (c.loop-i.i + 1) (point_demand answer)) _ {after = string_bytes c.add-row.new.text} c.in-ok-add-row.ensures next c.loop-i.invariant
+    moved (string_bytes c.loop-i.text) (row_text (c.loop-i.i + 1) (point_demand answer)) _ {after = string_bytes c.add_row.new.text} c.in_ok-add_row.ensures next c.loop-i.invariant
 
 pub returns : goal.returns
 returns c =

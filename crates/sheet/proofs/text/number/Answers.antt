@@ -12,11 +12,11 @@ returns-then-b-lt48 c =
     let none : all_digits c.args.item.now ≡ false = grind (arith, nat_tests) in
     grind (arith, nat_tests)
 
-pub overflow-mul-value : goal.overflow-mul-value
-overflow-mul-value c = omega (arith, ten_few c.loop-b.b-index (omega arith))
+pub overflow_mul-value : goal.overflow_mul-value
+overflow_mul-value c = omega (arith, ten_few c.loop-b.b-index (omega arith))
 
-pub overflow-add-value : goal.overflow-add-value
-overflow-add-value c = omega (arith, ten_few c.loop-b.b-index (omega arith))
+pub overflow_add-value : goal.overflow_add-value
+overflow_add-value c = omega (arith, ten_few c.loop-b.b-index (omega arith))
 
 pub loop-b-preserved : goal.loop-b-preserved
 loop-b-preserved c =

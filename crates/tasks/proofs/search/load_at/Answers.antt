@@ -4,10 +4,10 @@ use Rattle.theory.specs.Tasks.{cdiv}
 use Rattle.theory.proofs.Cdiv.{cdiv_pos, cdiv_least}
 use Rattle.tasks.proofs.search.load_at.Goals as goal
 
-pub invariant-of-result : goal.invariant-of-result
-invariant-of-result c =
+pub invariant_of-result : goal.invariant_of-result
+invariant_of-result c =
     let t = c.args.task in
     let f = c.args.level in
     let some : 1 ≤ cdiv t.work f = cdiv_pos t.work f (omega arith) (omega arith) in
     let few : cdiv t.work f ≤ t.work = cdiv_least t.work f t.work (omega arith) (le-mul_of_pos_right t.work (omega arith)) in
-    (omega arith, (omega arith, (omega (arith, c.rounded-up.ensures), (omega (arith, c.rounded-up.ensures), tt))))
+    (omega arith, (omega arith, (omega (arith, c.rounded_up.ensures), (omega (arith, c.rounded_up.ensures), tt))))

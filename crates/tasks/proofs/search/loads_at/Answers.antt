@@ -14,9 +14,9 @@ loop-i-preserved c =
     let ts = map task_of c.args.tasks.now in
     let i = c.loop-i.i in
     let loads = c.loop-i.loads in
-    let l = c.load-at.result in
+    let l = c.load_at.result in
     let row = row_is c.args.tasks.now i c.index-tasks-i.result c.loop-i-test.true c.index-tasks-i.is in
-    let here : LoadOf f (get_or ts i no_task) l = subst (λ (t : theory.Task). LoadOf f t l) (sym row) c.load-at.ensures in (
+    let here : LoadOf f (get_or ts i no_task) l = subst (λ (t : theory.Task). LoadOf f t l) (sym row) c.load_at.ensures in (
       omega (arith, length-set loads i l),
       below_more (λ k. LoadOf f (get_or ts k no_task) (get_or (set loads i l) k no_load)) i
           (λ k h.

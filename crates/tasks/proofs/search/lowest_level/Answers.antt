@@ -14,11 +14,11 @@ use Rattle.tasks.proofs.Levels.{level_at}
 use Rattle.tasks.proofs.OneRow.{Stepped, valid_task, valid_tasks, valid_front, begins_first, begins_next, stepped_at}
 use Rattle.tasks.proofs.Rows.{row_is}
 use Rattle.tasks.proofs.search.lowest_level.Goals as goal
-use Rattle.tasks.proofs.search.lowest_level.Goals.{After-next-point-at, After-from}
+use Rattle.tasks.proofs.search.lowest_level.Goals.{After-next_point-at, After-from}
 
 -- the levels are in their range
-pub loads-at-loads-requires : goal.loads-at-loads-requires
-loads-at-loads-requires c =
+pub loads_at-loads-requires : goal.loads_at-loads-requires
+loads_at-loads-requires c =
     let l = level_at c.args.levels.now c.levels.level-index c.requires.listed c.levels-test.true in
     record { some = l.0; low = l.1; few = c.requires.few }
 
@@ -28,11 +28,11 @@ rows-init c = (omega arith, refl, below_none _, begins_first _)
 -- the load at the row's place has the cost of its job
 cost_is : (c : After-from) → c.from.result ≡ cost (get_or c.args.levels.now c.levels.level-index 0) (task_of c.index-tasks-i.result)
 cost_is c =
-    let ls = c.loads-at-loads.result in
+    let ls = c.loads_at-loads.result in
     let i = c.rows.i in
     let f = get_or c.args.levels.now c.levels.level-index 0 in
     c.from.ensures ∙ ap (λ l. l.cost) (get_or_default ls i c.index-loads-i.result no_load (omega arith))
-    ∙ (c.loads-at-loads.ensures i c.rows-test.true).1
+    ∙ (c.loads_at-loads.ensures i c.rows-test.true).1
     ∙ ap (cost f) (row_is c.args.tasks.now i c.index-tasks-i.result c.rows-test.true c.index-tasks-i.is)
 
 pub points-init : goal.points-init
@@ -48,32 +48,32 @@ points-init c =
     )
 
 -- a step of the points loop
-step : (c : After-next-point-at) → Stepped (get_or c.args.levels.now c.levels.level-index 0) (take c.rows.i (map task_of c.args.tasks.now)) (task_of c.index-tasks-i.result) c.points.from c.next-point-at.result.point c.next-point-at.result.demand
+step : (c : After-next_point-at) → Stepped (get_or c.args.levels.now c.levels.level-index 0) (take c.rows.i (map task_of c.args.tasks.now)) (task_of c.index-tasks-i.result) c.points.from c.next_point-at.result.point c.next_point-at.result.demand
 step c =
     let ts = map task_of c.args.tasks.now in
-    let ls = c.loads-at-loads.result in
+    let ls = c.loads_at-loads.result in
     let i = c.rows.i in
     let x = c.index-tasks-i.result in
     let same : i + 1 - 0 ≡ i + 1 = omega arith in
     let long = length-map c.args.tasks.now task_of in
     let f = level_at c.args.levels.now c.levels.level-index c.requires.listed c.levels-test.true in
     stepped_at (get_or c.args.levels.now c.levels.level-index 0) ts ls i f.0 (valid_tasks c.args.tasks.now) (omega arith) (omega arith)
-    (λ k h. c.loads-at-loads.ensures k (omega arith))
+    (λ k h. c.loads_at-loads.ensures k (omega arith))
     (task_of x) (row_is c.args.tasks.now i x c.rows-test.true c.index-tasks-i.is)
-    c.points.from c.next-point-at.result.point c.next-point-at.result.demand
+    c.points.from c.next_point-at.result.point c.next_point-at.result.demand
     c.points.invariant.0 (omega arith)
-    (c.next-point-at.ensures.point ∙ ap (λ n. next (take n ls) x.deadline c.points.from) same)
-    (c.next-point-at.ensures.demand ∙ ap (λ n. asked (take n ls) c.points.from) same)
+    (c.next_point-at.ensures.point ∙ ap (λ n. next (take n ls) x.deadline c.points.from) same)
+    (c.next_point-at.ensures.demand ∙ ap (λ n. asked (take n ls) c.points.from) same)
     c.points.invariant.1
 
 pub points-smaller : goal.points-smaller
 points-smaller c =
-    let s = step (goal.at.points-smaller c).After-next-point-at in
+    let s = step (goal.at.points-smaller c).After-next_point-at in
     omega (arith, s.on, s.in_time)
 
 pub points-preserved : goal.points-preserved
 points-preserved c =
-    let s = step (goal.at.points-preserved c).After-next-point-at in
+    let s = step (goal.at.points-preserved c).After-next_point-at in
     (omega (arith, s.on), s.goes_on (omega arith))
 
 pub rows-preserved : goal.rows-preserved
@@ -82,10 +82,10 @@ rows-preserved c =
     let ts = map task_of tasks in
     let i = c.rows.i in
     let x = c.index-tasks-i.result in
-    let a = c.next-point-at.result in
+    let a = c.next_point-at.result in
     let level = get_or c.args.levels.now c.levels.level-index 0 in
     let f = level_at c.args.levels.now c.levels.level-index c.requires.listed c.levels-test.true in
-    let s = step (goal.at.rows-preserved c).After-next-point-at in
+    let s = step (goal.at.rows-preserved c).After-next_point-at in
     let row = row_is tasks i x c.rows-test.true c.index-tasks-i.is in
     let long = length-map tasks task_of in
     let wide = length-map c.rows.answers point_demand in
@@ -93,7 +93,7 @@ rows-preserved c =
     let old = c.rows.answers in
     let after : map point_demand (set old i a) ≡ set (map point_demand old) i (point_demand a) = map-set point_demand old i a in
     let Good : List (ℕ × ℕ) → ℕ → Type 0 = λ found k. answer level (take k ts) (get_or ts k no_task) ≡ Some (get_or found k (0, 0)) in (
-      c.next-point-at.ensures.bound,
+      c.next_point-at.ensures.bound,
       omega (arith, length-set old i a),
       subst (λ (found : List (ℕ × ℕ)). Answered level ts (i + 1) found) (sym after)
           (below_more (Good (set (map point_demand old) i (point_demand a))) i
@@ -101,7 +101,7 @@ rows-preserved c =
           let ne : k ≢ i = omega arith in
           c.rows.invariant.2 k h ∙ ap Some (sym (get_or-set_other (map point_demand old) i k (point_demand a) (0, 0) ne)))
           (here ∙ ap Some (sym (get_or-set_same (map point_demand old) i (point_demand a) (0, 0) (omega arith))))),
-      begins_next level ts c.loads-at-loads.result i f.0 (valid_tasks tasks) (omega arith) (omega arith) (λ k h. c.loads-at-loads.ensures k (omega arith))
+      begins_next level ts c.loads_at-loads.result i f.0 (valid_tasks tasks) (omega arith) (omega arith) (λ k h. c.loads_at-loads.ensures k (omega arith))
           a.point a.demand here,
     )
 

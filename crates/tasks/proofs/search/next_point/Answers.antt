@@ -9,17 +9,17 @@ use Rattle.tasks.proofs.search.next_point.Goals.{After-from-in-loop-load}
 
 -- what the turn adds
 added : (c : After-from-in-loop-load) → c.from.result * c.from-in-loop-load.result ≡ c.load-item.result.cost * cdiv c.args.from c.load-item.result.period
-added c = simp (c.from.ensures, c.from-in-loop-load.ensures, c.rounded-up-jobs.ensures)
+added c = simp (c.from.ensures, c.from-in-loop-load.ensures, c.rounded_up-jobs.ensures)
 
-pub overflow-mul-jobs : goal.overflow-mul-jobs
-overflow-mul-jobs c =
+pub overflow_mul-jobs : goal.overflow_mul-jobs
+overflow_mul-jobs c =
     let l = c.load-item.result in
     let tight = cdiv_tight c.args.from l.period l.some_time in
-    omega (arith, ap (λ n. n * l.period) c.rounded-up-jobs.ensures, l.short)
+    omega (arith, ap (λ n. n * l.period) c.rounded_up-jobs.ensures, l.short)
 
-pub overflow-add-demand : goal.overflow-add-demand
-overflow-add-demand c =
-    let a = added (goal.at.overflow-add-demand c).After-from-in-loop-load in
+pub overflow_add-demand : goal.overflow_add-demand
+overflow_add-demand c =
+    let a = added (goal.at.overflow_add-demand c).After-from-in-loop-load in
     omega (arith, one_le c.load-item.result c.args.from (omega arith))
 
 pub loop-load-preserved : goal.loop-load-preserved
@@ -31,7 +31,7 @@ loop-load-preserved c =
     let more = asked_more ls i l c.loop-load-test.true c.load-item.is c.args.from in
     let one = one_le l c.args.from (omega arith) in
     let was = c.loop-load.invariant in
-    let point : c.min-point.result ≡ min c.loop-load.point (cdiv c.args.from l.period * l.period) = simp (c.min-point.ensures, c.rounded-up-jobs.ensures) in (
+    let point : c.min-point.result ≡ min c.loop-load.point (cdiv c.args.from l.period * l.period) = simp (c.min-point.ensures, c.rounded_up-jobs.ensures) in (
       omega arith,
       omega arith,
       ap (λ b. next (drop (i + 1) ls) b c.args.from) point ∙ sym (next_more ls i l c.loop-load-test.true c.load-item.is c.loop-load.point c.args.from) ∙ was.2,

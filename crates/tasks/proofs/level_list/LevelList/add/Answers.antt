@@ -5,8 +5,8 @@ use Rattle.tasks.specs.Tables.{listed}
 use Rattle.tasks.proofs.Levels.{ascending_more}
 use Rattle.tasks.proofs.level_list.LevelList.add.Goals as goal
 
-pub invariant-of-self : goal.invariant-of-self
-invariant-of-self c =
+pub invariant_of-self : goal.invariant_of-self
+invariant_of-self c =
     let above : top (listed c.args.self.now) < c.args.level = omega (arith, c.last.ensures) in
     let asc = ascending_more (listed c.args.self.now) c.args.level c.args.self.now.rising above c.if-level-gt1000.false in
     search rules

@@ -7,4 +7,4 @@ use Rattle.tasks.proofs.plan.AdmittedPlan.answer.Goals as goal
 
 pub returns : goal.returns
 returns c =
-    ap (option_map point_demand) c.of-row.ensures ∙ row_at c.answers.result.now c.args.row ∙ ap (λ (l : List (ℕ × ℕ)). at_row l c.args.row) c.answers.ensures
+    ap (option_map point_demand) c.of_row.ensures ∙ row_at c.answers.result.now c.args.row ∙ ap (λ (l : List (ℕ × ℕ)). at_row l c.args.row) c.answers.ensures

@@ -9,9 +9,9 @@ pub returns : goal.returns
 returns c =
     let plan = c.args.self.now in
     record {
-      is = c.level-of.ensures;
+      is = c.level_of.ensures;
       lowest =
-          subst (λ (f : ℕ). LowestInTime (plan_levels plan) (plan_tasks plan) f (plan_answers plan)) (sym c.level-of.ensures)
+          subst (λ (f : ℕ). LowestInTime (plan_levels plan) (plan_tasks plan) f (plan_answers plan)) (sym c.level_of.ensures)
           (in_time (plan_levels plan) (plan_tasks plan) plan.levels.rising (valid_tasks _) plan.level (plan_answers plan)
           (the_found _ plan.level (plan_answers plan) plan.some plan.lowest_passing plan.answered));
     }

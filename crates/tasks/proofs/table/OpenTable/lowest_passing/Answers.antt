@@ -8,15 +8,15 @@ use Rattle.tasks.proofs.Admitting.{some_level, some_levels}
 use Rattle.tasks.proofs.OneRow.{valid_tasks}
 use Rattle.tasks.proofs.table.OpenTable.lowest_passing.Goals as goal
 
-pub lowest-level-requires : goal.lowest-level-requires
-lowest-level-requires c =
+pub lowest_level-requires : goal.lowest_level-requires
+lowest_level-requires c =
     let table = c.args.self.now in
     let long = ap length c.levels.ensures in
     record {
       some = omega (arith, some_levels (levels_of table) (tasks_of table) c.requires.some);
       listed = ap (ascending 0) c.levels.ensures ∙ table.levels.rising;
-      few = omega (arith, c.as-slice.ensures.len, table.few);
-      room = omega (arith, c.as-slice.ensures.len, table.few);
+      few = omega (arith, c.as_slice.ensures.len, table.few);
+      room = omega (arith, c.as_slice.ensures.len, table.few);
     }
 
 -- What is said of each answer is said of the answer.
@@ -27,16 +27,16 @@ each (Err e) p q h = q e h
 pub returns : goal.returns
 returns c =
     let table = c.args.self.now in
-    let kept = c.lowest-level.new.answers in
-    let same : lowest c.levels.result.now (map task_of c.as-slice.result.now) ≡ lowest (levels_of table) (tasks_of table) =
-    ap₂ (λ (a : List ℕ) (b : List Task). lowest a (map task_of b)) c.levels.ensures c.as-slice.ensures.value in
-    each c.lowest-level.result
+    let kept = c.lowest_level.new.answers in
+    let same : lowest c.levels.result.now (map task_of c.as_slice.result.now) ≡ lowest (levels_of table) (tasks_of table) =
+    ap₂ (λ (a : List ℕ) (b : List Task). lowest a (map task_of b)) c.levels.ensures c.as_slice.ensures.value in
+    each c.lowest_level.result
     (λ f e.
     let found : lowest (levels_of table) (tasks_of table) ≡ Some (f, map point_demand (take (vec_len table.tasks) kept)) =
-    sym same ∙ e ∙ ap (λ (n : ℕ). Some (f, map point_demand (take n kept))) c.as-slice.ensures.len in
+    sym same ∙ e ∙ ap (λ (n : ℕ). Some (f, map point_demand (take n kept))) c.as_slice.ensures.len in
     (some_level (levels_of table) (tasks_of table) table.levels.rising (valid_tasks _) f _ found, found))
     (λ row e. (
       sym same ∙ e.0,
-      e.1 ∙ ap₂ (λ (a : List ℕ) (b : List Task). first_failing (top a) (map task_of b)) c.levels.ensures c.as-slice.ensures.value,
+      e.1 ∙ ap₂ (λ (a : List ℕ) (b : List Task). first_failing (top a) (map task_of b)) c.levels.ensures c.as_slice.ensures.value,
     ))
-    c.lowest-level.ensures
+    c.lowest_level.ensures

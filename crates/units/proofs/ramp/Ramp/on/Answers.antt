@@ -3,7 +3,7 @@ use Rattle.std.proofs.lemmas.Result.{err_from_is_err_and}
 use Rattle.units.proofs.Calls.{stays}
 use Rattle.units.proofs.ramp.Ramp.on.Goals as goal
 
-pub returns-in-err-self : goal.returns-in-err-self
-returns-in-err-self c =
+pub returns-in_err-self : goal.returns-in_err-self
+returns-in_err-self c =
     let p = err_from_is_err_and c.from-residual.result c.from-residual.ensures.1 in
-    rw (p.1, p.2) (record { does = stays _ _ _ _ c.in-err-self.ensures; fixed = refl; kept = refl })
+    rw (p.1, p.2) (record { does = stays _ _ _ _ c.in_err-self.ensures; fixed = refl; kept = refl })
