@@ -47,9 +47,9 @@ impl Ranked for Entry {
 // How many entries at the front stay before `new`.
 fn place<E: Ranked + Copy>(entries: &[E], new: E) -> usize
     ensures within { result ≤ length entries.now }
-    ensures cuts { insert entries.now result new ≡ ordered before new entries.now }
-    ensures sorted { sorted before entries.now ≡ true → sorted before (ordered before new entries.now) ≡ true }
-    ensures shuffled { IsPermutation (new ∷ entries.now) (ordered before new entries.now) }
+    ensures cuts { insert entries.now result new ≡ ordered E.before new entries.now }
+    ensures sorted { sorted E.before entries.now ≡ true → sorted E.before (ordered E.before new entries.now) ≡ true }
+    ensures shuffled { IsPermutation (new ∷ entries.now) (ordered E.before new entries.now) }
 {
     for (at, next) in entries.iter().enumerate() {
         if !next.upto(new) {
@@ -84,7 +84,7 @@ fn remove<E: Ranked + Copy>(slots: &mut [E], n: usize) -> E
     requires within { n ≤ length slots.old }
     ensures front { take n slots.old ≡ result ∷ take (n - 1) slots.new }
     ensures spare { (m : ℕ) → n ≤ m → drop m slots.new ≡ drop m slots.old }
-    ensures sorted { sorted before (take n slots.old) ≡ true → sorted before (take (n - 1) slots.new) ≡ true }
+    ensures sorted { sorted E.before (take n slots.old) ≡ true → sorted E.before (take (n - 1) slots.new) ≡ true }
 {
     let first = slots[0];
     slots[0..n].rotate_left(1);
@@ -93,9 +93,9 @@ fn remove<E: Ranked + Copy>(slots: &mut [E], n: usize) -> E
 
 // Puts `new` after every entry that may stand before it, and before the others. Where every slot is taken it is refused, and nothing changes.
 pub fn put<E: Ranked + Copy>(slots: &mut [E], len: &mut usize, new: E) -> Result<(), Fault>
-    ensures puts { Puts before slots.old len.old new result slots.new len.new }
+    ensures puts { Puts E.before slots.old len.old new result slots.new len.new }
     ensures spare { drop len.new slots.new ≡ drop len.new slots.old }
-    ensures sorted { sorted before (take len.old slots.old) ≡ true → sorted before (take len.new slots.new) ≡ true }
+    ensures sorted { sorted E.before (take len.old slots.old) ≡ true → sorted E.before (take len.new slots.new) ≡ true }
     ensures shuffled { OnOk result (IsPermutation (new ∷ take len.old slots.old) (take len.new slots.new)) }
     ensures within { len.old ≤ length slots.old → len.new ≤ length slots.old }
 {
@@ -113,7 +113,7 @@ pub fn put<E: Ranked + Copy>(slots: &mut [E], len: &mut usize, new: E) -> Result
 pub fn take_head<E: Ranked + Copy>(slots: &mut [E], len: &mut usize) -> Option<E>
     ensures takes { Takes slots.old len.old result slots.new len.new }
     ensures spare { drop len.old slots.new ≡ drop len.old slots.old }
-    ensures sorted { sorted before (take len.old slots.old) ≡ true → sorted before (take len.new slots.new) ≡ true }
+    ensures sorted { sorted E.before (take len.old slots.old) ≡ true → sorted E.before (take len.new slots.new) ≡ true }
     ensures within { len.new ≤ len.old }
 {
     let n = held(slots, *len);
