@@ -10,4 +10,9 @@ invariant_of-result c =
     let f = c.args.level in
     let some : 1 ≤ cdiv t.work f = cdiv_pos t.work f (omega arith) (omega arith) in
     let few : cdiv t.work f ≤ t.work = cdiv_least t.work f t.work (omega arith) (le-mul_of_pos_right t.work (omega arith)) in
-    (omega arith, (omega arith, (omega (arith, c.rounded_up.ensures), (omega (arith, c.rounded_up.ensures), tt))))
+    record {
+      some_time = omega arith;
+      short = omega arith;
+      some_cost = omega (arith, c.rounded_up.ensures);
+      light = omega (arith, c.rounded_up.ensures);
+    }
