@@ -1,4 +1,4 @@
-use Rattle.units.specs.Ramping.{found_stands}
+use Rattle.units.proofs.Ramping.{found_stands}
 use Rattle.units.proofs.ramp_unit.stands_in.Goals as goal
 
 pub returns : goal.returns

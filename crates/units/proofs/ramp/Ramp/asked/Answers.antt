@@ -1,6 +1,7 @@
 use Rattle.std.proofs.Common.{ℕ, sym, refl, ap, ◌∙◌}
 use Rattle.tasks.specs.Tables.{listed}
-use Rattle.units.specs.Ramping.{asked_lag, stands_range}
+use Rattle.units.specs.Ramping.{stands_range}
+use Rattle.units.proofs.Ramping.{asked_lag}
 use Rattle.units.proofs.ramp.Ramp.asked.Goals as goal
 
 pub climbing-requires : goal.climbing-requires

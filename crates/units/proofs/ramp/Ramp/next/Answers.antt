@@ -1,6 +1,6 @@
 use Rattle.std.proofs.Common.{◌∙◌, rules}
 use Rattle.tasks.specs.Tables.{listed}
-use Rattle.units.specs.Ramping.{wakes}
+use Rattle.units.proofs.Ramping.{wakes}
 use Rattle.units.proofs.ramp.Ramp.next.Goals as goal
 
 pub returns-else-left-gt1 : goal.returns-else-left-gt1
