@@ -1,11 +1,10 @@
--- Worked cases of admission and of a run, computed from the definitions.
+-- Worked cases of admission, computed from the definitions.
 use Rattle.std.specs.Prelude.{◌≡◌, ℕ, List, [], ◌∷◌, Ok, Err}
 use Rattle.fault.specs.declared.Refusal.TheVariants.{NoLevelPasses}
 use Rattle.fault.specs.Faults.{fault_at}
 use Rattle.theory.specs.Tasks.{Task}
 use Rattle.tasks.specs.Admission.{admission}
 use Rattle.tasks.specs.Tables.{numbers}
-use Rattle.sheet_cases.specs.Run.{EndedAtOnce}
 
 -- Three tasks that pass at 50 units a tick, with nothing to spare.
 abbrev pub three : List Task
@@ -36,5 +35,3 @@ pub record WorkedCases : Type 0 where
   -- each job takes whole ticks
   pub whole_ticks : admission (10 ∷ []) equal ≡ Err (fault_at NoLevelPasses 0 2)
   pub next_level : admission (10 ∷ 15 ∷ []) equal ≡ Ok (15, (3, 1) ∷ (3, 2) ∷ [])
-  -- a run begins, and its job ends in the first tick
-  pub ended_at_once : EndedAtOnce

@@ -1,2 +1,2 @@
-pub mod Run
 pub mod Cases
+pub mod Run

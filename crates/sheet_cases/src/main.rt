@@ -2,6 +2,7 @@
 #![tactic(auto)]
 
 ghost use Rattle.sheet_cases.specs.Cases.{WorkedCases};
+ghost use Rattle.sheet_cases.specs.Run.{EndedAtOnce};
 
 use sheet::answer;
 use std::{env, fs};
@@ -9,6 +10,13 @@ use std::{env, fs};
 // The worked cases, computed from the definitions.
 fn worked() -> u8
     ensures { WorkedCases }
+{
+    0
+}
+
+// A worked run, computed from the definitions.
+fn worked_run() -> u8
+    ensures { EndedAtOnce }
 {
     0
 }
@@ -30,5 +38,6 @@ fn run(rt: &HostRuntime) -> anyhow::Result<()> {
 
 fn main(rt: HostRuntime) -> anyhow::Result<()> {
     let _ = worked();
+    let _ = worked_run();
     run(&rt)
 }

@@ -1,4 +1,4 @@
-use Rattle.std.proofs.Common.{refl, lit≤}
+use Rattle.std.proofs.Common.{refl}
 use Rattle.sheet_cases.proofs.worked.Goals as goal
 
 pub returns : goal.returns
@@ -12,12 +12,4 @@ returns c = record {
   past_deadline = refl;
   whole_ticks = refl;
   next_level = refl;
-  ended_at_once = record {
-    admitted = refl;
-    accepted = refl;
-    within = record { back = lit≤ tt; slowed = lit≤ tt; woken = lit≤ tt };
-    count = refl;
-    asked = refl;
-    rest = refl;
-  };
 }
