@@ -14,7 +14,7 @@ use Rattle.machine.specs.History.{History}
 use Rattle.machine.specs.Machine.{Now}
 use Rattle.machine.specs.Plans.{Plan}
 use Rattle.machine.specs.Reached.{Said, Reached}
-use Rattle.run.specs.Promises.{Promised, Goes_on}
+use Rattle.run.specs.Promises.{Promised, GoesOn}
 use Rattle.run.specs.Views.{plan_of}
 use Rattle.run.specs.declared.run.Run.{Run}
 use Rattle.run.specs.declared.state.State.{State}
@@ -24,12 +24,12 @@ pub promised : (x : Nature) (p : Plan) (starts : List ℕ) (u : Meaning) (h : Hi
 promised x p starts u h now r = record { reached = r; lawful = every_run_is_lawful x p starts u h now r }
 
 -- A word goes on from whatever was reached before it.
-pub goes_on : (x : Nature) (p : Plan) (word : Word) (before : Now) (reply : Reply) (after : Now) → Said x p word before reply after → Goes_on x p word before reply after
+pub goes_on : (x : Nature) (p : Plan) (word : Word) (before : Now) (reply : Reply) (after : Now) → Said x p word before reply after → GoesOn x p word before reply after
 goes_on x p word before reply after said starts u h r = promised x p starts u (record { word = word; reply = reply } ∷ h) after (before, r, said)
 
 -- A run with the state that it had is the run that it was.
 pub kept_run : (r : Result Report Fault) (plan : AdmittedPlan) (before after : State) (P : Type 0) → IfErr r (λ _. (after ≡ before) × P) →
-    IfErr {X = Report} {Y = Fault} r (λ _. (◌≡◌ {A = Run} (record { plan = plan; state = after }) (record { plan = plan; state = before })) × P)
+    IfErr {T = Report} {E = Fault} r (λ _. (◌≡◌ {A = Run} (record { plan = plan; state = after }) (record { plan = plan; state = before })) × P)
 kept_run (Ok a) plan before after P h = h
 kept_run (Err e) plan before after P h = (ap (λ (s : State). record { plan = plan; state = s }) h.0, h.1)
 

@@ -19,8 +19,8 @@ pub record Promised (x : Nature) (p : Plan) (starts : List ℕ) (u : Meaning) (h
   pub lawful : Lawful x p starts h now
 
 -- Of every history that leads to the moment before a word, the history with this word and its reply leads to the moment after, with all that is promised.
-abbrev pub Goes_on : Nature → Plan → Word → Now → Reply → Now → Type 0
-Goes_on x p word before reply after =
+abbrev pub GoesOn : Nature → Plan → Word → Now → Reply → Now → Type 0
+GoesOn x p word before reply after =
     (starts : List ℕ) (u : Meaning) (h : History) → Reached x p starts u h before → Promised x p starts u (record { word = word; reply = reply } ∷ h) after
 
 -- The reply of a tick, by its result.

@@ -19,9 +19,9 @@ use units::unit::SpeedUnit;
 
 // Asks for the admitted level, which the unit takes.
 fn ask_admitted<U: SpeedUnit>(plan: &AdmittedPlan, unit: &mut U) -> Result<(), Fault>
-    requires may { may_ask (nature unit.old) plan.now.level (meaning unit.old) ≡ true }
-    ensures does { MatchResult result (λ _. WithRaise (nature unit.old) (λ lag. ask_with lag plan.now.level (meaning unit.old)) (meaning unit.new)) (λ _. ⊥) }
-    ensures fixed { nature unit.new ≡ nature unit.old }
+    requires may { may_ask (U.nature unit.old) plan.now.level (U.meaning unit.old) ≡ true }
+    ensures does { MatchResult result (λ _. WithRaise (U.nature unit.old) (λ lag. ask_with lag plan.now.level (U.meaning unit.old)) (U.meaning unit.new)) (λ _. ⊥) }
+    ensures fixed { U.nature unit.new ≡ U.nature unit.old }
 {
     unit.ask(plan.level())
 }
@@ -30,9 +30,9 @@ fn ask_admitted<U: SpeedUnit>(plan: &AdmittedPlan, unit: &mut U) -> Result<(), F
 // refuses, the unit is asked nothing; after the checks nothing refuses.
 fn open<U: SpeedUnit>(plan: &AdmittedPlan, starts: &[u32], unit: &mut U) -> Result<State, Fault>
     ensures does { MatchResult result
-        (λ s. Began (nature unit.old) (plan_of plan.now) starts.now (meaning unit.old) (now_of s (meaning unit.new)))
-        (λ e. (begin_fault (nature unit.old) (plan_of plan.now) starts.now (meaning unit.old) ≡ Some e) × (unit.new ≡ unit.old)) }
-    ensures fixed { nature unit.new ≡ nature unit.old }
+        (λ s. Began (U.nature unit.old) (plan_of plan.now) starts.now (U.meaning unit.old) (now_of s (U.meaning unit.new)))
+        (λ e. (begin_fault (U.nature unit.old) (plan_of plan.now) starts.now (U.meaning unit.old) ≡ Some e) × (unit.new ≡ unit.old)) }
+    ensures fixed { U.nature unit.new ≡ U.nature unit.old }
 {
     check(plan, starts, unit)?;
     let allowed = unit.allowances();
@@ -58,10 +58,10 @@ impl Run {
         unit: &mut U,
     ) -> Result<(Run, Slip), Back<AdmittedPlan>>
         ensures does { MatchResult result
-            (λ b. (b.0.plan ≡ plan) × Began (nature unit.old) (plan_of plan) starts.now (meaning unit.old) (moment b.0 (meaning unit.new)))
-            (λ b. (begin_fault (nature unit.old) (plan_of plan) starts.now (meaning unit.old) ≡ Some b.fault) × (b.given ≡ plan) × (unit.new ≡ unit.old)) }
-        ensures promised { IfOk result (λ b. Promised (nature unit.old) (plan_of plan) starts.now (meaning unit.old) [] (moment b.0 (meaning unit.new))) }
-        ensures fixed { nature unit.new ≡ nature unit.old }
+            (λ b. (b.0.plan ≡ plan) × Began (U.nature unit.old) (plan_of plan) starts.now (U.meaning unit.old) (moment b.0 (U.meaning unit.new)))
+            (λ b. (begin_fault (U.nature unit.old) (plan_of plan) starts.now (U.meaning unit.old) ≡ Some b.fault) × (b.given ≡ plan) × (unit.new ≡ unit.old)) }
+        ensures promised { IfOk result (λ b. Promised (U.nature unit.old) (plan_of plan) starts.now (U.meaning unit.old) [] (moment b.0 (U.meaning unit.new))) }
+        ensures fixed { U.nature unit.new ≡ U.nature unit.old }
     {
         match open(&plan, starts, unit) {
             Ok(state) => Ok((Run { plan, state }, Slip { seal: () })),

@@ -46,7 +46,7 @@ fn check_late(starts: &[u32]) -> Result<(), Fault>
 
 // The unit neither rests nor lags.
 fn check_ready<U: SpeedUnit>(unit: &U) -> Result<(), Fault>
-    ensures { MatchResult result (λ _. ready_fault (meaning unit.now) ≡ None) (λ e. ready_fault (meaning unit.now) ≡ Some e) }
+    ensures { MatchResult result (λ _. ready_fault (U.meaning unit.now) ≡ None) (λ e. ready_fault (U.meaning unit.now) ≡ Some e) }
 {
     if ready(unit) {
         return Ok(());
@@ -56,7 +56,7 @@ fn check_ready<U: SpeedUnit>(unit: &U) -> Result<(), Fault>
 
 // Whether a level is up to the admitted one, and the unit does not take it.
 fn untaken<U: SpeedUnit>(level: u32, admitted: u32, unit: &U) -> bool
-    ensures { result ≡ (nat_le level admitted && not ((nature unit.now).takes level)) }
+    ensures { result ≡ (nat_le level admitted && not ((U.nature unit.now).takes level)) }
 {
     level <= admitted && !unit.takes(level)
 }
@@ -64,7 +64,7 @@ fn untaken<U: SpeedUnit>(level: u32, admitted: u32, unit: &U) -> bool
 // The unit takes every listed level up to the admitted one.
 fn check_levels<U: SpeedUnit>(levels: &[u32], admitted: u32, unit: &U) -> Result<(), Fault>
     requires few { length levels.now ≤ 64 }
-    ensures { MatchResult result (λ _. untaken_fault (nature unit.now) admitted levels.now ≡ None) (λ e. untaken_fault (nature unit.now) admitted levels.now ≡ Some e) }
+    ensures { MatchResult result (λ _. untaken_fault (U.nature unit.now) admitted levels.now ≡ None) (λ e. untaken_fault (U.nature unit.now) admitted levels.now ≡ Some e) }
 {
     for (i, level) in levels.iter().enumerate() {
         if untaken(*level, admitted, unit) {
@@ -90,7 +90,7 @@ fn check_early(starts: &[u32], raise: u32) -> Result<(), Fault>
 // The unit is ready, takes the levels, and can raise in time for every first release.
 fn check_unit<U: SpeedUnit>(plan: &AdmittedPlan, starts: &[u32], unit: &U) -> Result<(), Fault>
     requires few { length starts.now ≤ 32 }
-    ensures { MatchResult result (λ _. unit_fault (nature unit.now) (plan_of plan.now) starts.now (meaning unit.now) ≡ None) (λ e. unit_fault (nature unit.now) (plan_of plan.now) starts.now (meaning unit.now) ≡ Some e) }
+    ensures { MatchResult result (λ _. unit_fault (U.nature unit.now) (plan_of plan.now) starts.now (U.meaning unit.now) ≡ None) (λ e. unit_fault (U.nature unit.now) (plan_of plan.now) starts.now (U.meaning unit.now) ≡ Some e) }
 {
     check_ready(unit)?;
     check_levels(plan.levels(), plan.level(), unit)?;
@@ -103,7 +103,7 @@ pub(crate) fn check<U: SpeedUnit>(
     starts: &[u32],
     unit: &U,
 ) -> Result<(), Fault>
-    ensures does { MatchResult result (λ _. begin_fault (nature unit.now) (plan_of plan.now) starts.now (meaning unit.now) ≡ None) (λ e. begin_fault (nature unit.now) (plan_of plan.now) starts.now (meaning unit.now) ≡ Some e) }
+    ensures does { MatchResult result (λ _. begin_fault (U.nature unit.now) (plan_of plan.now) starts.now (U.meaning unit.now) ≡ None) (λ e. begin_fault (U.nature unit.now) (plan_of plan.now) starts.now (U.meaning unit.now) ≡ Some e) }
 {
     check_count(plan, starts)?;
     check_late(starts)?;

@@ -5,7 +5,7 @@ ghost use Rattle.tasks.specs.Admission.{SomeEmpty, EveryLevelLate};
 ghost use Rattle.tasks.specs.Tables.{levels_of, tasks_of};
 ghost use Rattle.units.specs.Meaning.{Meaning, off as nothing};
 ghost use Rattle.machine.specs.Reached.{Said, Reached};
-ghost use Rattle.run.specs.Promises.{Goes_on, reply_of};
+ghost use Rattle.run.specs.Promises.{GoesOn, reply_of};
 ghost use Rattle.run.specs.Views.{plan_in, moment};
 ghost use Rattle.run.specs.Whole.{Operates, RefusedExactly};
 
@@ -30,10 +30,10 @@ fn replied(res: Result<Report, Fault>) -> Reply
 impl Run {
     // Says a word. A refused word is replied to as well, and the run can go on.
     pub fn say<U: SpeedUnit>(&mut self, word: Word, unit: &mut U) -> Reply
-        ensures does { Said (nature unit.old) (plan_in self.old) word (moment self.old (meaning unit.old)) result (moment self.new (meaning unit.new)) }
-        ensures promise { Goes_on (nature unit.old) (plan_in self.old) word (moment self.old (meaning unit.old)) result (moment self.new (meaning unit.new)) }
+        ensures does { Said (U.nature unit.old) (plan_in self.old) word (moment self.old (U.meaning unit.old)) result (moment self.new (U.meaning unit.new)) }
+        ensures promise { GoesOn (U.nature unit.old) (plan_in self.old) word (moment self.old (U.meaning unit.old)) result (moment self.new (U.meaning unit.new)) }
         ensures plan { self.new.plan ≡ self.old.plan }
-        ensures fixed { nature unit.new ≡ nature unit.old }
+        ensures fixed { U.nature unit.new ≡ U.nature unit.old }
     {
         match word {
             Word::GoOn => replied(self.go_on(unit)),
@@ -47,8 +47,8 @@ impl Run {
 fn say_all<U: SpeedUnit>(run: &mut Run, words: &[Word], unit: &mut U, events: &mut Vec<Event>)
     requires room { vec_len events.old + length words.now ≤ vec_capacity events.old }
     ensures said { map (λ e. e.word) events.new.items ≡ map (λ e. e.word) events.old.items ++ words.now }
-    ensures promise { (starts : List ℕ) (u : Meaning) → Reached (nature unit.old) (plan_in run.old) starts u (reverse events.old.items) (moment run.old (meaning unit.old)) → Reached (nature unit.old) (plan_in run.old) starts u (reverse events.new.items) (moment run.new (meaning unit.new)) }
-    ensures fixed { nature unit.new ≡ nature unit.old }
+    ensures promise { (starts : List ℕ) (u : Meaning) → Reached (U.nature unit.old) (plan_in run.old) starts u (reverse events.old.items) (moment run.old (U.meaning unit.old)) → Reached (U.nature unit.old) (plan_in run.old) starts u (reverse events.new.items) (moment run.new (U.meaning unit.new)) }
+    ensures fixed { U.nature unit.new ≡ U.nature unit.old }
 {
     for word in words {
         let reply = run.say(*word, unit);
@@ -65,12 +65,12 @@ pub fn operate<U: SpeedUnit>(
     unit: &mut U,
     words: &[Word],
 ) -> Result<Record, Halt>
-    ensures does { Operates (nature unit.old) table starts.now (meaning unit.old) words.now result }
+    ensures does { Operates (U.nature unit.old) table starts.now (U.meaning unit.old) words.now result }
     ensures empty { RefusedExactly BadCount (SomeEmpty (levels_of table) (tasks_of table)) result }
     ensures none { RefusedExactly NoLevelPasses (EveryLevelLate (levels_of table) (tasks_of table)) result }
-    ensures off { OnOk result (meaning unit.new ≡ nothing) }
+    ensures off { OnOk result (U.meaning unit.new ≡ nothing) }
     ensures kept { OnErr result (unit.new ≡ unit.old) }
-    ensures fixed { nature unit.new ≡ nature unit.old }
+    ensures fixed { U.nature unit.new ≡ U.nature unit.old }
 {
     let Ok(mut events) = Vec::with_capacity(heap, words.len()) else {
         return Err(Halt::NoMemory(table));

@@ -11,8 +11,8 @@ use units::unit::SpeedUnit;
 impl State {
     // Releases, the choice of the active row, the admitted level again, then rest or a lower level.
     pub(crate) fn settle<U: SpeedUnit>(&mut self, plan: &AdmittedPlan, unit: &mut U)
-        ensures does { Settles (nature unit.old) (plan_of plan.now) (now_of self.old (meaning unit.old)) (now_of self.new (meaning unit.new)) }
-        ensures fixed { nature unit.new ≡ nature unit.old }
+        ensures does { Settles (U.nature unit.old) (plan_of plan.now) (now_of self.old (U.meaning unit.old)) (now_of self.new (U.meaning unit.new)) }
+        ensures fixed { U.nature unit.new ≡ U.nature unit.old }
     {
         self.inner.release_due(plan.tasks(), self.count);
         self.inner.elect();
@@ -23,8 +23,8 @@ impl State {
     // The unit ticks, the count rises by 1, and the run settles.
     pub(crate) fn pass<U: SpeedUnit>(&mut self, plan: &AdmittedPlan, unit: &mut U)
         requires room { self.old.count < 1000000000 }
-        ensures does { Passes (nature unit.old) (plan_of plan.now) (inner_of self.old.inner) self.old.pace (now_of self.old (meaning unit.old)) (now_of self.new (meaning unit.new)) }
-        ensures fixed { nature unit.new ≡ nature unit.old }
+        ensures does { Passes (U.nature unit.old) (plan_of plan.now) (inner_of self.old.inner) self.old.pace (now_of self.old (U.meaning unit.old)) (now_of self.new (U.meaning unit.new)) }
+        ensures fixed { U.nature unit.new ≡ U.nature unit.old }
     {
         unit.tick();
         self.count += 1;

@@ -15,7 +15,7 @@ use units::unit::SpeedUnit;
 
 // Whether neither a rest nor a lag is left.
 pub(crate) fn ready<U: SpeedUnit>(unit: &U) -> bool
-    ensures { result ≡ is_ready (meaning unit.now) }
+    ensures { result ≡ is_ready (U.meaning unit.now) }
 {
     let at = unit.standing();
     at.rest == 0 && at.lag == 0
@@ -23,9 +23,9 @@ pub(crate) fn ready<U: SpeedUnit>(unit: &U) -> bool
 
 // Asks for a level, if the unit would take it. Whether it was asked.
 fn try_ask<U: SpeedUnit>(unit: &mut U, level: u32) -> bool
-    ensures asks { result ≡ may_ask (nature unit.old) level (meaning unit.old) }
-    ensures does { WithRaise (nature unit.old) (λ lag. (if result then ask_with lag level (meaning unit.old) else meaning unit.old)) (meaning unit.new) }
-    ensures fixed { nature unit.new ≡ nature unit.old }
+    ensures asks { result ≡ may_ask (U.nature unit.old) level (U.meaning unit.old) }
+    ensures does { WithRaise (U.nature unit.old) (λ lag. (if result then ask_with lag level (U.meaning unit.old) else U.meaning unit.old)) (U.meaning unit.new) }
+    ensures fixed { U.nature unit.new ≡ U.nature unit.old }
 {
     if !ready(unit) || !unit.takes(level) {
         return false;
@@ -35,8 +35,8 @@ fn try_ask<U: SpeedUnit>(unit: &mut U, level: u32) -> bool
 
 // Rests for some ticks, if the unit would take that.
 fn try_rest<U: SpeedUnit>(unit: &mut U, ticks: u32)
-    ensures does { meaning unit.new ≡ (if may_rest ticks (meaning unit.old) then rest_for ticks (meaning unit.old) else meaning unit.old) }
-    ensures fixed { nature unit.new ≡ nature unit.old }
+    ensures does { U.meaning unit.new ≡ (if may_rest ticks (U.meaning unit.old) then rest_for ticks (U.meaning unit.old) else U.meaning unit.old) }
+    ensures fixed { U.nature unit.new ≡ U.nature unit.old }
 {
     if ready(unit) && ticks > 0 && ticks <= 65_535 && unit.standing().asked > 0 {
         let _ = unit.rest(ticks);
@@ -68,8 +68,8 @@ fn window(tick: u32, raise: u32, job: Job, inner: &Inner) -> u32
 
 // If the unit was slowed for a job that is now finished, the admitted level is asked for. The pace after that.
 pub(crate) fn back_to<U: SpeedUnit>(level: u32, pace: Pace, unit: &mut U) -> Pace
-    ensures does { WithRaise (nature unit.old) (λ lag. ask_back (nature unit.old) level lag pace (meaning unit.old)) (record { pace = result; unit = meaning unit.new }) }
-    ensures fixed { nature unit.new ≡ nature unit.old }
+    ensures does { WithRaise (U.nature unit.old) (λ lag. ask_back (U.nature unit.old) level lag pace (U.meaning unit.old)) (record { pace = result; unit = U.meaning unit.new }) }
+    ensures fixed { U.nature unit.new ≡ U.nature unit.old }
 {
     match pace {
         Pace::Over => {
@@ -85,8 +85,8 @@ pub(crate) fn back_to<U: SpeedUnit>(level: u32, pace: Pace, unit: &mut U) -> Pac
 
 // With no active job, the unit rests until the first release, less the wake allowance.
 fn rest_on<U: SpeedUnit>(tick: u32, wake: u32, inner: &Inner, unit: &mut U)
-    ensures does { meaning unit.new ≡ rest_until tick wake (inner_of inner.now).delay (meaning unit.old) }
-    ensures fixed { nature unit.new ≡ nature unit.old }
+    ensures does { U.meaning unit.new ≡ rest_until tick wake (inner_of inner.now).delay (U.meaning unit.old) }
+    ensures fixed { U.nature unit.new ≡ U.nature unit.old }
 {
     if let Some(entry) = inner.first_release() {
         try_rest(unit, entry.key.saturating_sub(tick).saturating_sub(wake));
@@ -95,8 +95,8 @@ fn rest_on<U: SpeedUnit>(tick: u32, wake: u32, inner: &Inner, unit: &mut U)
 
 // The unit is slowed for a row to a level, if there is one and it is below the admitted one. The pace after that.
 fn slow_down<U: SpeedUnit>(admitted: u32, row: u32, level: Option<u32>, unit: &mut U) -> Pace
-    ensures does { WithRaise (nature unit.old) (λ lag. slow_to (nature unit.old) admitted lag row level (meaning unit.old)) (record { pace = result; unit = meaning unit.new }) }
-    ensures fixed { nature unit.new ≡ nature unit.old }
+    ensures does { WithRaise (U.nature unit.old) (λ lag. slow_to (U.nature unit.old) admitted lag row level (U.meaning unit.old)) (record { pace = result; unit = U.meaning unit.new }) }
+    ensures fixed { U.nature unit.new ≡ U.nature unit.old }
 {
     match level {
         Some(lower) => {
@@ -119,8 +119,8 @@ fn slow_for_row<U: SpeedUnit>(
     inner: &Inner,
     unit: &mut U,
 ) -> Pace
-    ensures does { WithRaise (nature unit.old) (λ lag. slow_for (nature unit.old) (plan_of plan.now) lag tick raise row (inner_of inner.now) (meaning unit.old)) (record { pace = result; unit = meaning unit.new }) }
-    ensures fixed { nature unit.new ≡ nature unit.old }
+    ensures does { WithRaise (U.nature unit.old) (λ lag. slow_for (U.nature unit.old) (plan_of plan.now) lag tick raise row (inner_of inner.now) (U.meaning unit.old)) (record { pace = result; unit = U.meaning unit.new }) }
+    ensures fixed { U.nature unit.new ≡ U.nature unit.old }
 {
     let job = job_of(&inner.jobs, row);
     let ticks = window(tick, raise, job, inner);
@@ -138,8 +138,8 @@ fn slow_for_row<U: SpeedUnit>(
 
 // A unit at the admitted level that works: it rests, or is slowed, or neither, as the active row and the run queue say. The pace after that.
 fn rest_or_slow<U: SpeedUnit>(plan: &AdmittedPlan, state: &State, unit: &mut U) -> Pace
-    ensures does { WithRaise (nature unit.old) (λ lag. rest_or_slow (nature unit.old) (plan_of plan.now) lag state.now.count state.now.raise state.now.wake state.now.inner.active (inner_of state.now.inner).queue (inner_of state.now.inner) (meaning unit.old)) (record { pace = result; unit = meaning unit.new }) }
-    ensures fixed { nature unit.new ≡ nature unit.old }
+    ensures does { WithRaise (U.nature unit.old) (λ lag. rest_or_slow (U.nature unit.old) (plan_of plan.now) lag state.now.count state.now.raise state.now.wake state.now.inner.active (inner_of state.now.inner).queue (inner_of state.now.inner) (U.meaning unit.old)) (record { pace = result; unit = U.meaning unit.new }) }
+    ensures fixed { U.nature unit.new ≡ U.nature unit.old }
 {
     match (state.inner.active, state.inner.first_waiting()) {
         (None, _) => {
@@ -160,8 +160,8 @@ pub(crate) fn spare<U: SpeedUnit>(
     pace: Pace,
     unit: &mut U,
 ) -> Pace
-    ensures does { WithRaise (nature unit.old) (λ lag. spared (nature unit.old) (plan_of plan.now) lag state.now.count state.now.raise state.now.wake (inner_of state.now.inner) pace (meaning unit.old)) (record { pace = result; unit = meaning unit.new }) }
-    ensures fixed { nature unit.new ≡ nature unit.old }
+    ensures does { WithRaise (U.nature unit.old) (λ lag. spared (U.nature unit.old) (plan_of plan.now) lag state.now.count state.now.raise state.now.wake (inner_of state.now.inner) pace (U.meaning unit.old)) (record { pace = result; unit = U.meaning unit.new }) }
+    ensures fixed { U.nature unit.new ≡ U.nature unit.old }
 {
     match pace {
         Pace::Full => {

@@ -51,9 +51,9 @@ impl State {
     ) -> Report
         requires room { self.old.count < 1000000000 }
         requires active { self.old.inner.active ≡ Some row }
-        requires works { level ≡ works (meaning unit.old) }
-        ensures does { RunsRow (nature unit.old) (plan_of plan.now) said row (now_of self.old (meaning unit.old)) result (now_of self.new (meaning unit.new)) }
-        ensures fixed { nature unit.new ≡ nature unit.old }
+        requires works { level ≡ works (U.meaning unit.old) }
+        ensures does { RunsRow (U.nature unit.old) (plan_of plan.now) said row (now_of self.old (U.meaning unit.old)) result (now_of self.new (U.meaning unit.new)) }
+        ensures fixed { U.nature unit.new ≡ U.nature unit.old }
     {
         let work = task_of(plan.tasks(), row).work;
         let given = job_of(&self.inner.jobs, row).given;
@@ -75,7 +75,7 @@ impl State {
 
     // Why ended is refused where no row runs. The run and the unit are then left as they are.
     fn nothing_given<U: SpeedUnit>(&self, plan: &AdmittedPlan, unit: &U) -> Fault
-        ensures { RunsNone (nature unit.now) (plan_of plan.now) true (now_of self.now (meaning unit.now)) (Refused result) (now_of self.now (meaning unit.now)) }
+        ensures { RunsNone (U.nature unit.now) (plan_of plan.now) true (now_of self.now (U.meaning unit.now)) (Refused result) (now_of self.now (U.meaning unit.now)) }
     {
         Fault::new(Refusal::NothingGiven, 0, 0)
     }
@@ -83,7 +83,7 @@ impl State {
     // Why a tick is refused at the last count. The run and the unit are then left as they are.
     fn count_full<U: SpeedUnit>(&self, plan: &AdmittedPlan, said: bool, unit: &U) -> Fault
         requires last { 1000000000 ≤ self.now.count }
-        ensures { Ticks (nature unit.now) (plan_of plan.now) said (now_of self.now (meaning unit.now)) (Refused result) (now_of self.now (meaning unit.now)) }
+        ensures { Ticks (U.nature unit.now) (plan_of plan.now) said (now_of self.now (U.meaning unit.now)) (Refused result) (now_of self.now (U.meaning unit.now)) }
     {
         Fault::new(Refusal::CountFull, 0, 0)
     }
@@ -96,8 +96,8 @@ impl State {
         unit: &mut U,
     ) -> Result<Report, Fault>
         requires room { self.old.count < 1000000000 }
-        ensures does { RunsNone (nature unit.old) (plan_of plan.now) said (now_of self.old (meaning unit.old)) (reply_of result) (now_of self.new (meaning unit.new)) }
-        ensures fixed { nature unit.new ≡ nature unit.old }
+        ensures does { RunsNone (U.nature unit.old) (plan_of plan.now) said (now_of self.old (U.meaning unit.old)) (reply_of result) (now_of self.new (U.meaning unit.new)) }
+        ensures fixed { U.nature unit.new ≡ U.nature unit.old }
         ensures kept { OnErr result ((self.new ≡ self.old) × (unit.new ≡ unit.old)) }
     {
         if said {
@@ -119,8 +119,8 @@ impl State {
         said: bool,
         unit: &mut U,
     ) -> Result<Report, Fault>
-        ensures does { Ticks (nature unit.old) (plan_of plan.now) said (now_of self.old (meaning unit.old)) (reply_of result) (now_of self.new (meaning unit.new)) }
-        ensures fixed { nature unit.new ≡ nature unit.old }
+        ensures does { Ticks (U.nature unit.old) (plan_of plan.now) said (now_of self.old (U.meaning unit.old)) (reply_of result) (now_of self.new (U.meaning unit.new)) }
+        ensures fixed { U.nature unit.new ≡ U.nature unit.old }
         ensures kept { OnErr result ((self.new ≡ self.old) × (unit.new ≡ unit.old)) }
     {
         if self.count >= 1_000_000_000 {
@@ -146,7 +146,7 @@ impl State {
 
     // Where the run and its unit stand.
     pub(crate) fn shown<U: SpeedUnit>(&self, unit: &U) -> RunStanding
-        ensures { Stands result ≡ standing_of (state_of self.now) (meaning unit.now) }
+        ensures { Stands result ≡ standing_of (state_of self.now) (U.meaning unit.now) }
     {
         let (row, given) = self.active_job();
         RunStanding {
