@@ -27,10 +27,10 @@ pub(crate) fn read_order(rt: &HostRuntime) -> anyhow::Result<Order> {
     };
     let mut args = all.skip(1);
     let Some(sheet) = args.next() else {
-        return Err(USAGE.into());
+        return Err(anyhow!(USAGE));
     };
     let Some(kind) = args.next() else {
-        return Err(USAGE.into());
+        return Err(anyhow!(USAGE));
     };
     let mut numbers = Vec::new(heap);
     let mut place = 3u64;
@@ -46,7 +46,7 @@ pub(crate) fn read_order(rt: &HostRuntime) -> anyhow::Result<Order> {
     let unit = match kind.as_str() {
         "divider" => {
             if numbers.len() != 2 {
-                return Err(USAGE.into());
+                return Err(anyhow!(USAGE));
             }
             UnitOrder::Divider {
                 rate: numbers[0],
