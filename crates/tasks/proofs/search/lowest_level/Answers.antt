@@ -3,7 +3,7 @@ use Rattle.std.proofs.lemmas.List.{at_drop_all, get_or_default, get_or-set_same,
 use Rattle.theory.specs.Search.{NoneBelow}
 use Rattle.theory.specs.Tasks as theory
 use Rattle.theory.specs.Tasks.{cost, no_task}
-use Rattle.theory.specs.Test.{answer, answers, at_level, lowest, first_failing}
+use Rattle.theory.specs.Test.{answer, at_level, lowest, first_failing}
 use Rattle.theory.proofs.Demand.{cost_pos}
 use Rattle.theory.proofs.Levels.{lowest_more}
 use Rattle.theory.proofs.Search.{exhausted}
