@@ -51,17 +51,12 @@ impl OpenTable {
         }
     }
 
-    // The plan at the level that the search found, with its answers.
+    // The plan at a level that the search found, with its answers.
     fn at_level(self, level: u32, answers: [Answer; 32]) -> AdmittedPlan
         requires room { 32 ≤ length answers }
         requires some { 1 ≤ level }
         requires found { lowest (levels_of self) (tasks_of self) ≡ Some (level, map point_demand (take (vec_len self.tasks) answers)) }
-        requires answer { admission (levels_of self) (tasks_of self) ≡ Ok (level, map point_demand (take (vec_len self.tasks) answers)) }
-        ensures kept { (result.levels ≡ self.levels) × (result.tasks ≡ self.tasks) × (result.level ≡ level) × (result.answers ≡ answers) }
-        ensures answer { (admission (levels_of self) (tasks_of self) ≡ Ok (result.level, plan_answers result)) × (plan_levels result ≡ levels_of self) × (plan_tasks result ≡ tasks_of self) }
-        ensures lowest { LowestInTime (levels_of self) (tasks_of self) result.level (plan_answers result) }
-        ensures empty { RefusedBy BadCount (Ok result) ↔ SomeEmpty (levels_of self) (tasks_of self) }
-        ensures none { RefusedBy NoLevelPasses (Ok result) ↔ EveryLevelLate (levels_of self) (tasks_of self) }
+        ensures { (result.levels ≡ self.levels) × (result.tasks ≡ self.tasks) × (result.level ≡ level) × (result.answers ≡ answers) }
     {
         let OpenTable { levels, tasks } = self;
         AdmittedPlan {
@@ -70,6 +65,20 @@ impl OpenTable {
             level,
             answers,
         }
+    }
+
+    // The plan at the level that admission answers, and what that answer means for the jobs.
+    fn admitted(self, level: u32, answers: [Answer; 32]) -> AdmittedPlan
+        requires room { 32 ≤ length answers }
+        requires some { 1 ≤ level }
+        requires found { lowest (levels_of self) (tasks_of self) ≡ Some (level, map point_demand (take (vec_len self.tasks) answers)) }
+        requires answer { admission (levels_of self) (tasks_of self) ≡ Ok (level, map point_demand (take (vec_len self.tasks) answers)) }
+        ensures answer { (admission (levels_of self) (tasks_of self) ≡ Ok (result.level, plan_answers result)) × (plan_levels result ≡ levels_of self) × (plan_tasks result ≡ tasks_of self) }
+        ensures lowest { LowestInTime (levels_of self) (tasks_of self) result.level (plan_answers result) }
+        ensures empty { RefusedBy BadCount (Ok result) ↔ SomeEmpty (levels_of self) (tasks_of self) }
+        ensures none { RefusedBy NoLevelPasses (Ok result) ↔ EveryLevelLate (levels_of self) (tasks_of self) }
+    {
+        self.at_level(level, answers)
     }
 
     // The table as it was, with the fault that admission answers.
@@ -96,7 +105,7 @@ impl OpenTable {
             demand: 0,
         }; 32];
         match self.search(&mut answers) {
-            Ok(level) => Ok(self.at_level(level, answers)),
+            Ok(level) => Ok(self.admitted(level, answers)),
             Err(fault) => Err(self.refused(fault)),
         }
     }
