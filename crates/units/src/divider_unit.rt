@@ -47,7 +47,7 @@ impl SpeedUnit for Divider {
 
     ghost nature = { divider_nature };
 
-    ghost few = { first_of (Prim.search rules, Prim.grind (arith, Self.row.coded.inj)) };
+    ghost few = { Prim.search rules };
 
     ghost levels = { λ u level h. let le = divides_le u.rate level u.some_rate h in (le.0, omega arith) };
 

@@ -135,7 +135,7 @@ impl SpeedUnit for Ramp {
 
     ghost nature = { ramp_nature };
 
-    ghost few = { first_of (Prim.search rules, Prim.grind (arith, Self.row.coded.inj)) };
+    ghost few = { Prim.search rules };
 
     ghost levels = { λ u level h. stands_range 0 (listed u.levels) level u.levels.rising h };
 
