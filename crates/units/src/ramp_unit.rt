@@ -8,7 +8,7 @@ ghost use Rattle.units.specs.Meaning.{Asked, Ticked, off as nothing};
 ghost use Rattle.units.specs.Ramp.{stands, between, ramps, ramp_meaning, ramp_nature, ramp_refusal, ramp_after, Moves};
 ghost use Rattle.units.specs.States.{lasts, state_meaning};
 ghost use Rattle.units.specs.Ramping.{stands_range};
-ghost use Rattle.std.proofs.Common.{rules, arith};
+ghost use Rattle.std.proofs.Common.{rules};
 
 use crate::ramp::{Event, Ramp, State};
 use crate::unit::{Allowances, SpeedUnit, Standing};
