@@ -1,5 +1,5 @@
 -- The number and the layer of each refusal.
-use Rattle.std.specs.Prelude.{cond, ℕ, eqb}
+use Rattle.std.specs.Prelude.{cond, ℕ, ◌==◌}
 use Rattle.fault.specs.declared.Layer.{Layer}
 use Rattle.fault.specs.declared.Layer.TheVariants.{Sheet, Table, Run, Unit as UnitLayer}
 use Rattle.fault.specs.declared.Refusal.{Refusal}
@@ -35,7 +35,7 @@ abbrev pub layer_of : Refusal → ℕ → Layer
 layer_of SheetTooLong line = Sheet
 layer_of EndsEarly line = Sheet
 layer_of BadLine line = Sheet
-layer_of BadCount line = cond (eqb line 0) Table Sheet
+layer_of BadCount line = cond (line == 0) Table Sheet
 layer_of BadLevel line = Table
 layer_of BadPeriod line = Table
 layer_of BadDeadline line = Table

@@ -1,15 +1,17 @@
 // What every refusal carries: which rule was broken, the line and the row that it is for, and the layer whose rule it is.
 #![tactic(auto)]
 
-ghost use Rattle.std.specs.Prelude.{◌≡◌};
+ghost use Rattle.std.specs.Prelude.{◌≡◌, Some};
 ghost use Rattle.fault.specs.Numbers.{number_of, layer_of};
-ghost use Rattle.fault.specs.Faults.{fault_at};
+ghost use Rattle.fault.specs.Faults.{fault_at, fault_text};
+
+use std::fmt;
 
 // The rules that an input can break, in the order in which they are checked.
 #[derive(Clone, Copy, PartialEq, Eq, Debug)]
 pub enum Refusal {
     // The sheet is longer than 4,096 bytes.
-    SheetTooLong,
+    SheetTooLong = 1,
     // The text ends before the line that is due, or inside it.
     EndsEarly,
     // A line is not of the form for its place.
@@ -76,47 +78,37 @@ impl Refusal {
     pub fn number(self) -> u8
         ensures { result ≡ number_of self }
     {
-        match self {
-            Refusal::SheetTooLong => 1,
-            Refusal::EndsEarly => 2,
-            Refusal::BadLine => 3,
-            Refusal::BadCount => 4,
-            Refusal::BadLevel => 5,
-            Refusal::BadPeriod => 6,
-            Refusal::BadDeadline => 7,
-            Refusal::BadWork => 8,
-            Refusal::LateStart => 9,
-            Refusal::BytesFollow => 10,
-            Refusal::NoLevelPasses => 11,
-            Refusal::UnitNotReady => 12,
-            Refusal::LevelNotTaken => 13,
-            Refusal::EarlyStart => 14,
-            Refusal::CountFull => 15,
-            Refusal::NothingGiven => 16,
-            Refusal::UnitBusy => 17,
-            Refusal::UnknownLevel => 18,
-            Refusal::BadRest => 19,
-            Refusal::BadDivider => 20,
-            Refusal::QueueFull => 21,
-        }
+        self as u8
     }
 
     // The layer of a refusal at a line of a sheet, 0 outside one.
     pub fn layer(self, line: u32) -> Layer
         ensures { result ≡ layer_of self line }
     {
-        match self.number() {
-            1..=3 | 10 => Layer::Sheet,
-            4 => {
+        match self {
+            Refusal::SheetTooLong | Refusal::EndsEarly | Refusal::BadLine | Refusal::BytesFollow =>
+                Layer::Sheet,
+            Refusal::BadCount => {
                 if line == 0 {
                     Layer::Table
                 } else {
                     Layer::Sheet
                 }
             }
-            5..=9 | 11 => Layer::Table,
-            12..=16 | 21 => Layer::Run,
-            _ => Layer::Unit,
+            Refusal::BadLevel
+            | Refusal::BadPeriod
+            | Refusal::BadDeadline
+            | Refusal::BadWork
+            | Refusal::LateStart
+            | Refusal::NoLevelPasses => Layer::Table,
+            Refusal::UnitNotReady
+            | Refusal::LevelNotTaken
+            | Refusal::EarlyStart
+            | Refusal::CountFull
+            | Refusal::NothingGiven
+            | Refusal::QueueFull => Layer::Run,
+            Refusal::UnitBusy | Refusal::UnknownLevel | Refusal::BadRest | Refusal::BadDivider =>
+                Layer::Unit,
         }
     }
 }
@@ -132,5 +124,25 @@ impl Fault {
             row,
             layer: refusal.layer(line),
         }
+    }
+}
+
+// A refusal outside a sheet that is for no row.
+impl From<Refusal> for Fault {
+    ghost from_gives = { λ why fault. fault ≡ fault_at why 0 0 };
+
+    fn from(refusal: Refusal) -> Fault {
+        Fault::new(refusal, 0, 0)
+    }
+}
+
+// `refused`, the number, the line and the row.
+impl fmt::Display for Fault {
+    ghost output = { λ f. Some (fault_text f) };
+
+    fn fmt<W: fmt::Write>(&self, f: &mut fmt::Formatter<W>) -> fmt::Result {
+        let number = self.refusal.number();
+        let Fault { line, row, .. } = *self;
+        write!(f, "refused {number} {line} {row}")
     }
 }

@@ -1,7 +1,7 @@
 -- The text of a listing, and of a refusal.
 use Rattle.std.specs.Prelude.{ℕ, ◌+◌, List, [], ◌∷◌, ◌++◌, decimal}
 use Rattle.fault.specs.declared.Fault.{Fault}
-use Rattle.fault.specs.Numbers.{number_of}
+use Rattle.fault.specs.Faults.{fault_text}
 
 -- ROW POINT DEMAND
 abbrev pub row_text : ℕ → ℕ × ℕ → List ℕ
@@ -20,11 +20,6 @@ level_word = 108 ∷ 101 ∷ 118 ∷ 101 ∷ 108 ∷ []
 abbrev pub listing_text : ℕ → List (ℕ × ℕ) → List ℕ
 listing_text level answers = (level_word ++ (32 ∷ decimal level ++ (10 ∷ []))) ++ rows_text 1 answers
 
--- `refused`
-abbrev pub refused_word : List ℕ
-refused_word = 114 ∷ 101 ∷ 102 ∷ 117 ∷ 115 ∷ 101 ∷ 100 ∷ []
-
 -- `refused` NUMBER LINE ROW
 abbrev pub refusal_text : Fault → List ℕ
-refusal_text f =
-    refused_word ++ (32 ∷ decimal (number_of f.refusal) ++ (32 ∷ decimal f.line ++ (32 ∷ decimal f.row ++ (10 ∷ []))))
+refusal_text f = fault_text f ++ (10 ∷ [])

@@ -13,10 +13,7 @@ fn add_row(text: &mut String, row: usize, answer: Answer) -> Result<(), AllocErr
 {
     let point = answer.point;
     let demand = answer.demand;
-    if writeln!(text, "{row} {point} {demand}").is_err() {
-        return Err(AllocError);
-    }
-    Ok(())
+    writeln!(text, "{row} {point} {demand}")
 }
 
 // The line with the admitted level.
@@ -49,8 +46,5 @@ pub fn listing(heap: Global, level: u32, answers: &[Answer]) -> Result<String, A
 pub fn refusal_line(heap: Global, fault: Fault) -> Result<String, AllocError>
     ensures { IfOk result (λ s. string_bytes s ≡ refusal_text fault) }
 {
-    let number = fault.refusal.number();
-    let line = fault.line;
-    let row = fault.row;
-    format!(in heap; "refused {number} {line} {row}\n")
+    format!(in heap; "{fault}\n")
 }

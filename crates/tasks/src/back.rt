@@ -1,4 +1,6 @@
 // A refusal of a call that uses up what it is given.
+ghost use Rattle.std.specs.Prelude.{◌≡◌};
+
 use fault::Fault;
 
 // Why the call was refused, and what it was given, as it was.
@@ -6,4 +8,13 @@ use fault::Fault;
 pub struct Back<T> {
     pub fault: Fault,
     pub given: T,
+}
+
+// The fault alone: what was given is let go.
+impl<T: Drop> From<Back<T>> for Fault {
+    ghost from_gives = { λ back fault. fault ≡ back.fault };
+
+    fn from(back: Back<T>) -> Fault {
+        back.fault
+    }
 }
