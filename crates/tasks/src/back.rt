@@ -12,7 +12,7 @@ pub struct Back<T> {
 
 // The fault alone: what was given is let go.
 impl<T: Drop> From<Back<T>> for Fault {
-    ghost from_gives = { λ back fault. fault ≡ back.fault };
+    ghost from_gives = { λ b f. f ≡ b.fault };
 
     fn from(back: Back<T>) -> Fault {
         back.fault
