@@ -1,10 +1,11 @@
 -- What a divider means.
 use Rattle.std.specs.Prelude.{ℕ, ◌%◌, ◌&&◌, ◌==◌, nat_lt}
 use Rattle.units.specs.Meaning.{Meaning, Nature}
+use Rattle.units.specs.Standing.{standing_meaning}
 use Rattle.units.specs.declared.divider.Divider.{Divider}
 
 abbrev pub divider_meaning : Divider → Meaning
-divider_meaning d = record { asked = d.asked; lag = d.lag; rest = d.rest }
+divider_meaning d = standing_meaning d.standing
 
 -- The nature of a divider with this rate and this wake count. It takes the levels that divide its rate, raises with no
 -- lag, and wakes with its wake count.

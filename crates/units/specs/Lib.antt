@@ -1,4 +1,5 @@
 pub mod Meaning
+pub mod Standing
 pub mod Calls
 pub mod Divider
 pub mod States

@@ -19,24 +19,22 @@ impl Divider {
             (λ d. (1 ≤ rate) × (rate ≤ 1000) × (wake ≤ 255) × (divider_meaning d ≡ nothing) × (divider_nature d ≡ divides rate wake))
             (λ e. ((1 ≤ rate) × (rate ≤ 1000) × (wake ≤ 255) → ⊥) × (e ≡ fault_at BadDivider 0 0)) }
     {
-        if rate < 1 || rate > 1000 || wake > 255 {
-            return Err(Fault::new(Refusal::BadDivider, 0, 0));
+        if !(1..=1000).contains(&rate) || wake > 255 {
+            return Err(Refusal::BadDivider.into());
         }
         Ok(Divider {
             rate,
             wake,
-            asked: 0,
-            lag: 0,
-            rest: 0,
+            standing: Standing::default(),
         })
     }
 
     // Refuses a call that comes while a rest or a lag is left.
-    fn free(&self) -> Result<(), Fault>
-        ensures { MatchResult result (λ _. Ready (divider_meaning self.now)) (λ e. Busy (divider_meaning self.now) × (e ≡ fault_at UnitBusy 0 0)) }
+    fn free(&self) -> Result<(), Refusal>
+        ensures { MatchResult result (λ _. Ready (divider_meaning self.now)) (λ why. Busy (divider_meaning self.now) × (why ≡ UnitBusy)) }
     {
-        if self.rest > 0 || self.lag > 0 {
-            return Err(Fault::new(Refusal::UnitBusy, 0, 0));
+        if !self.standing.is_ready() {
+            return Err(Refusal::UnitBusy);
         }
         Ok(())
     }
@@ -58,8 +56,9 @@ impl SpeedUnit for Divider {
         }
     }
 
+    // The rate is above 0, and so no multiple of 0.
     fn takes(&self, level: u32) -> bool {
-        level > 0 && self.rate % level == 0
+        self.rate.is_multiple_of(level)
     }
 
     // A raise takes no lag.
@@ -71,18 +70,18 @@ impl SpeedUnit for Divider {
     {
         self.free()?;
         if !self.takes(level) {
-            return Err(Fault::new(Refusal::UnknownLevel, 0, 0));
+            return Err(Refusal::UnknownLevel.into());
         }
-        self.asked = level;
+        self.standing.asked = level;
         Ok(())
     }
 
     fn rest(&mut self, ticks: u32) -> Result<(), Fault> {
         self.free()?;
-        if ticks < 1 || ticks > 65_535 || self.asked == 0 {
-            return Err(Fault::new(Refusal::BadRest, 0, 0));
+        if !(1..=65_535).contains(&ticks) || self.standing.asked == 0 {
+            return Err(Refusal::BadRest.into());
         }
-        self.rest = ticks;
+        self.standing.rest = ticks;
         Ok(())
     }
 
@@ -92,27 +91,22 @@ impl SpeedUnit for Divider {
         ensures fixed { divider_nature self.new ≡ divider_nature self.old }
         ensures exact { divider_meaning self.new ≡ tick_with self.old.wake (divider_meaning self.old) }
     {
-        if self.rest > 0 {
-            self.rest -= 1;
-            if self.rest == 0 {
-                self.lag = self.wake;
+        let at = &mut self.standing;
+        if at.rest > 0 {
+            at.rest -= 1;
+            if at.rest == 0 {
+                at.lag = self.wake;
             }
-        } else if self.lag > 0 {
-            self.lag -= 1;
+        } else if at.lag > 0 {
+            at.lag -= 1;
         }
     }
 
     fn off(&mut self) {
-        self.asked = 0;
-        self.lag = 0;
-        self.rest = 0;
+        self.standing = Standing::default();
     }
 
     fn standing(&self) -> Standing {
-        Standing {
-            asked: self.asked,
-            lag: self.lag,
-            rest: self.rest,
-        }
+        self.standing
     }
 }

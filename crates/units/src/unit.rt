@@ -1,12 +1,13 @@
 // A speed unit. Its callers know it only by its meaning.
 ghost use Rattle.std.specs.Prelude.{◌≡◌, ℕ, ◌≤◌, true, OnErr};
 ghost use Rattle.units.specs.Calls.{CallsAreFunctions};
-ghost use Rattle.units.specs.Meaning.{Meaning, Nature, Asked, Rested, Ticked, works, off as nothing};
+ghost use Rattle.units.specs.Meaning.{Meaning, Nature, Asked, Rested, Ticked, ready, works, off as nothing};
+ghost use Rattle.units.specs.Standing.{standing_meaning};
 
 use fault::Fault;
 
 // Where a unit stands: the level asked for, 0 when off; the ticks until it works; the ticks still asleep.
-#[derive(Clone, Copy, PartialEq, Eq, Debug)]
+#[derive(Clone, Copy, PartialEq, Eq, Default, Debug)]
 pub struct Standing {
     pub asked: u32,
     pub lag: u32,
@@ -21,15 +22,18 @@ pub struct Allowances {
 }
 
 impl Standing {
+    // Whether neither a rest nor a lag is left.
+    pub fn is_ready(self) -> bool
+        ensures { result ≡ ready (standing_meaning self) }
+    {
+        self.rest == 0 && self.lag == 0
+    }
+
     // The level that the unit works at: the one asked for, once neither a rest nor a lag is left.
     pub fn works(self) -> u32
-        ensures { result ≡ works (record { asked = self.asked; lag = self.lag; rest = self.rest }) }
+        ensures { result ≡ works (standing_meaning self) }
     {
-        if self.rest == 0 && self.lag == 0 {
-            self.asked
-        } else {
-            0
-        }
+        if self.is_ready() { self.asked } else { 0 }
     }
 }
 
