@@ -1,11 +1,11 @@
 -- What a ramp means, and its lags.
-use Rattle.std.specs.Prelude.{◌≡◌, ℕ, Bool, true, false, ◌&&◌, ◌||◌, List, [], ◌∷◌, length, None, Ok, Err, count_by, Option, Result, ◌==◌, nat_le, nat_lt}
-use Rattle.fault.specs.declared.Fault.{Fault}
+use Rattle.std.specs.Prelude.{◌≡◌, ℕ, Bool, ◌&&◌, List, length, Some, None, Ok, Err, count_by, Option, Result, ◌==◌, nat_le, nat_lt}
+use Rattle.std.specs.List.{list_any}
 use Rattle.fault.specs.declared.Refusal.{Refusal}
 use Rattle.tasks.specs.Tables.{listed}
-use Rattle.units.specs.Calls.{ask_with, rest_for, tick_with, ask_refusal, rest_refusal, answer}
+use Rattle.units.specs.Calls.{ask_with, rest_for, tick_with, ask_refusal, rest_refusal}
 use Rattle.units.specs.Meaning.{Meaning, Nature, off}
-use Rattle.units.specs.States.{lasts, state_meaning}
+use Rattle.units.specs.States.{state_meaning}
 use Rattle.units.specs.declared.ramp.Event.{Event}
 use Rattle.units.specs.declared.ramp.Event.TheVariants.{Ask, Rest, Tick, Off}
 use Rattle.units.specs.declared.ramp.Ramp.{Ramp}
@@ -13,8 +13,7 @@ use Rattle.units.specs.declared.ramp.State.{State}
 
 -- Whether a level stands in a list.
 abbrev pub stands : List ℕ → ℕ → Bool
-stands [] level = false
-stands (x ∷ xs) level = x == level || stands xs level
+stands levels level = list_any (λ x. x == level) levels
 
 -- How many levels of a list are above `low` and up to `high`.
 abbrev pub between : ℕ → ℕ → List ℕ → ℕ
@@ -46,6 +45,6 @@ ramp_after levels Tick u = tick_with (between 0 u.asked levels) u
 ramp_after levels Off u = off
 
 -- The state that an event leads to, or why the event is refused.
-abbrev pub Moves : List ℕ → Event → Meaning → Result State Fault → Type 0
-Moves levels event u (Ok s) = (ramp_refusal levels event u ≡ None) × (lasts s ≡ true) × (state_meaning s ≡ ramp_after levels event u)
-Moves levels event u (Err e) = answer (ramp_refusal levels event u) ≡ Err e
+abbrev pub Moves : List ℕ → Event → Meaning → Result State Refusal → Type 0
+Moves levels event u (Ok s) = (ramp_refusal levels event u ≡ None) × (state_meaning s ≡ ramp_after levels event u)
+Moves levels event u (Err why) = ramp_refusal levels event u ≡ Some why

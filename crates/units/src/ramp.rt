@@ -1,18 +1,16 @@
 // A unit that climbs through its own levels.
-ghost use Rattle.std.specs.Prelude.{◌≡◌, true};
-ghost use Rattle.units.specs.States.{lasts};
-
+use std::num::NonZeroU32;
 use tasks::level_list::LevelList;
 
-// What a ramp is doing. A level here is above 0, and so are the ticks that are left.
+// What a ramp is doing: at which level, and for how many ticks more.
 #[derive(Clone, Copy)]
 pub(crate) enum State {
     Off,
-    Working(u32),
+    Working(NonZeroU32),
     // On the way to a level.
-    Changing { level: u32, left: u32 },
+    Changing { level: NonZeroU32, left: NonZeroU32 },
     // Asleep at a level.
-    Asleep { level: u32, left: u32 },
+    Asleep { level: NonZeroU32, left: NonZeroU32 },
 }
 
 // What can happen to a ramp.
@@ -28,5 +26,4 @@ pub(crate) enum Event {
 pub struct Ramp {
     pub(crate) levels: LevelList,
     pub(crate) state: State,
-    ghost under_way: { lasts state ≡ true },
 }

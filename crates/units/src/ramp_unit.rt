@@ -1,52 +1,56 @@
 // The ramp as a speed unit: it takes its own levels, and its lags count them.
-ghost use Rattle.std.specs.Prelude.{◌≡◌, ◌≤◌, true, length, MatchResult, OnErr};
+ghost use Rattle.std.specs.Prelude.{◌≡◌, ◌≤◌, length, MatchResult, OnErr};
+ghost use Rattle.std.specs.Int.NonZero.{non_zero_u32_get};
 ghost use Rattle.fault.specs.declared.Refusal.TheVariants.{BadCount};
 ghost use Rattle.fault.specs.Faults.{fault_at};
 ghost use Rattle.tasks.specs.Tables.{listed};
 ghost use Rattle.units.specs.Calls.{CallIs, ask_refusal, ask_with, tick_with};
 ghost use Rattle.units.specs.Meaning.{Asked, Ticked, off as nothing};
-ghost use Rattle.units.specs.Ramp.{stands, between, ramps, ramp_meaning, ramp_nature, ramp_refusal, ramp_after, Moves};
-ghost use Rattle.units.specs.States.{lasts, state_meaning};
+ghost use Rattle.units.specs.Ramp.{between, ramps, ramp_meaning, ramp_nature, ramp_refusal, ramp_after, Moves};
+ghost use Rattle.units.specs.Standing.{standing_meaning};
+ghost use Rattle.units.specs.States.{state_meaning};
 ghost use Rattle.units.specs.Ramping.{stands_range};
 ghost use Rattle.std.proofs.Common.{rules};
 
 use crate::ramp::{Event, Ramp, State};
 use crate::unit::{Allowances, SpeedUnit, Standing};
 use fault::{Fault, Refusal};
+use std::num::NonZeroU32;
 use tasks::back::Back;
 use tasks::level_list::LevelList;
 
-// Whether a level stands among others.
-fn stands_in(levels: &[u32], level: u32) -> bool
-    ensures { result ≡ stands levels.now level }
-{
-    levels.contains(&level)
-}
-
-// How many levels are above `low` and up to `high`.
-fn levels_between(levels: &[u32], low: u32, high: u32) -> u32
-    requires { length levels.now ≤ 64 }
-    ensures { result ≡ between low high levels.now }
-{
-    let mut n = 0;
-    for level in levels {
-        if low < *level && *level <= high {
-            n += 1;
-        }
-    }
-    n
-}
-
 // The state that reaches a level after a lag.
-fn reaching(level: u32, lag: u32) -> State
-    requires { 1 ≤ level }
-    ensures means { state_meaning result ≡ record { asked = level; lag = lag; rest = 0 } }
-    ensures lasting { lasts result ≡ true }
+fn reaching(level: NonZeroU32, lag: u32) -> State
+    ensures { state_meaning result ≡ record { asked = non_zero_u32_get level; lag = lag; rest = 0 } }
 {
-    if lag == 0 {
-        State::Working(level)
-    } else {
-        State::Changing { level, left: lag }
+    match NonZeroU32::new(lag) {
+        Some(left) => State::Changing { level, left },
+        None => State::Working(level),
+    }
+}
+
+// The numbers of a ramp in a state.
+impl From<State> for Standing {
+    ghost from_gives = { λ state at. standing_meaning at ≡ state_meaning state };
+
+    fn from(state: State) -> Standing {
+        match state {
+            State::Off => Standing::default(),
+            State::Working(level) => Standing {
+                asked: level.get(),
+                ..Standing::default()
+            },
+            State::Changing { level, left } => Standing {
+                asked: level.get(),
+                lag: left.get(),
+                ..Standing::default()
+            },
+            State::Asleep { level, left } => Standing {
+                asked: level.get(),
+                rest: left.get(),
+                ..Standing::default()
+            },
+        }
     }
 }
 
@@ -59,7 +63,7 @@ impl Ramp {
     {
         if levels.as_slice().is_empty() {
             return Err(Back {
-                fault: Fault::new(Refusal::BadCount, 0, 0),
+                fault: Refusal::BadCount.into(),
                 given: levels,
             });
         }
@@ -69,53 +73,55 @@ impl Ramp {
         })
     }
 
-    // The state that climbs to a level, with a lag tick for each level on the way.
-    fn climbing(&self, low: u32, level: u32) -> State
-        requires { 1 ≤ level }
-        ensures means { state_meaning result ≡ record { asked = level; lag = between low level (listed self.now.levels); rest = 0 } }
-        ensures lasting { lasts result ≡ true }
+    // How many levels are above `low` and up to `high`.
+    fn levels_between(&self, low: u32, high: u32) -> u32
+        ensures { result ≡ between low high (listed self.now.levels) }
     {
-        reaching(level, levels_between(self.levels.as_slice(), low, level))
+        self.levels
+            .as_slice()
+            .iter()
+            .filter(|level| low < **level && **level <= high)
+            .count() as u32
+    }
+
+    // The state that climbs to a level, with a lag tick for each level on the way.
+    fn climbing(&self, low: u32, level: NonZeroU32) -> State
+        ensures { state_meaning result ≡ record { asked = non_zero_u32_get level; lag = between low (non_zero_u32_get level) (listed self.now.levels); rest = 0 } }
+    {
+        reaching(level, self.levels_between(low, level.get()))
     }
 
     // The state after an ask that comes while a level, or 0 for off, is at work.
-    fn asked(&self, old: u32, level: u32) -> Result<State, Fault>
+    #[tactic(auto, using(crate::proofs::Ramping::zero_stands_not))]
+    fn asked(&self, old: u32, level: u32) -> Result<State, Refusal>
         ensures { Moves (listed self.now.levels) (Event.Ask level) (record { asked = old; lag = 0; rest = 0 }) result }
     {
-        if !self.takes(level) {
-            return Err(Fault::new(Refusal::UnknownLevel, 0, 0));
+        match NonZeroU32::new(level) {
+            Some(own) if self.takes(level) => Ok(self.climbing(old, own)),
+            _ => Err(Refusal::UnknownLevel),
         }
-        Ok(self.climbing(old, level))
     }
 
     // The state after an event, or why the event is refused.
-    fn next(&self, event: Event) -> Result<State, Fault>
+    fn next(&self, event: Event) -> Result<State, Refusal>
         ensures { Moves (listed self.now.levels) event (ramp_meaning self.now) result }
     {
         match (self.state, event) {
             (_, Event::Off) => Ok(State::Off),
             (State::Off | State::Working(_), Event::Tick) => Ok(self.state),
-            (State::Changing { level, left }, Event::Tick) => Ok(reaching(level, left - 1)),
-            (State::Asleep { level, left }, Event::Tick) => {
-                if left > 1 {
-                    return Ok(State::Asleep {
-                        level,
-                        left: left - 1,
-                    });
-                }
-                Ok(self.climbing(0, level))
-            }
-            (State::Changing { .. } | State::Asleep { .. }, _) => {
-                Err(Fault::new(Refusal::UnitBusy, 0, 0))
-            }
+            (State::Changing { level, left }, Event::Tick) => Ok(reaching(level, left.get() - 1)),
+            (State::Asleep { level, left }, Event::Tick) => match NonZeroU32::new(left.get() - 1) {
+                Some(left) => Ok(State::Asleep { level, left }),
+                None => Ok(self.climbing(0, level)),
+            },
+            (State::Changing { .. } | State::Asleep { .. }, _) => Err(Refusal::UnitBusy),
             (State::Off, Event::Ask(level)) => self.asked(0, level),
-            (State::Working(old), Event::Ask(level)) => self.asked(old, level),
-            (State::Working(level), Event::Rest(ticks)) if ticks > 0 && ticks <= 65_535 => {
-                Ok(State::Asleep { level, left: ticks })
-            }
-            (State::Off | State::Working(_), Event::Rest(_)) => {
-                Err(Fault::new(Refusal::BadRest, 0, 0))
-            }
+            (State::Working(old), Event::Ask(level)) => self.asked(old.get(), level),
+            (State::Off, Event::Rest(_)) => Err(Refusal::BadRest),
+            (State::Working(level), Event::Rest(ticks)) => match NonZeroU32::new(ticks) {
+                Some(left) if ticks <= 65_535 => Ok(State::Asleep { level, left }),
+                _ => Err(Refusal::BadRest),
+            },
         }
     }
 
@@ -145,7 +151,7 @@ impl SpeedUnit for Ramp {
     }
 
     fn takes(&self, level: u32) -> bool {
-        stands_in(self.levels.as_slice(), level)
+        self.levels.as_slice().contains(&level)
     }
 
     // A raise takes a lag tick for each level on the way.
@@ -168,20 +174,16 @@ impl SpeedUnit for Ramp {
         ensures fixed { ramp_nature self.new ≡ ramp_nature self.old }
         ensures exact { ramp_meaning self.new ≡ tick_with (between 0 (ramp_meaning self.old).asked (listed self.old.levels)) (ramp_meaning self.old) }
     {
-        let _ = self.on(Event::Tick);
+        // A tick is never refused.
+        self.on(Event::Tick).unwrap();
     }
 
     fn off(&mut self) {
-        let _ = self.on(Event::Off);
+        // Nor is it to turn off.
+        self.on(Event::Off).unwrap();
     }
 
     fn standing(&self) -> Standing {
-        let (asked, lag, rest) = match self.state {
-            State::Off => (0, 0, 0),
-            State::Working(level) => (level, 0, 0),
-            State::Changing { level, left } => (level, left, 0),
-            State::Asleep { level, left } => (level, 0, left),
-        };
-        Standing { asked, lag, rest }
+        self.state.into()
     }
 }

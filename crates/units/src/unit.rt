@@ -91,8 +91,6 @@ pub trait SpeedUnit {
 }
 
 // A theorem: what the calls of any unit do is what their functions say.
-pub fn calls_are_functions() -> u8
+pub fn calls_are_functions()
     ensures { CallsAreFunctions }
-{
-    0
-}
+{}

@@ -1,11 +1,10 @@
-use Rattle.std.proofs.Common.{◌∙◌, rules}
-use Rattle.tasks.specs.Tables.{listed}
-use Rattle.units.proofs.Ramping.{wakes}
+use Rattle.std.proofs.Common.{◌≡◌, ◌-◌, arith}
+use Rattle.std.proofs.lemmas.Bool.Decides.{nat_tests}
+use Rattle.std.specs.Int.NonZero.{non_zero_u32_get}
 use Rattle.units.proofs.ramp.Ramp.next.Goals as goal
 
-pub returns-else-left-gt1 : goal.returns-else-left-gt1
-returns-else-left-gt1 c =
-    let ramp = c.args.self.now in
+pub returns-in-None : goal.returns-in-None
+returns-in-None c =
     let is = c.in-Asleep-Tick in
-    let e = c.climbing.ensures in
-    (search rules, e.lasting, e.means ∙ wakes (listed ramp.levels) ramp.state c.args.event _ _ is.is-0 is.is-1 ramp.under_way c.if-left-gt1.false)
+    let none : c.get-in-Asleep-Tick.result - 1 ≡ 0 = c.in-None.ensures in
+    rw (is.is-0, is.is-1) (grind (arith, nat_tests))
