@@ -42,11 +42,19 @@ unless (Some why) new u = u
 abbrev pub CallIs : Option Refusal → Meaning → Meaning → Result (Unit {0}) Fault → Meaning → Type 0
 CallIs why new u r u' = (r ≡ answer why) × (u' ≡ unless why new u)
 
+-- An ask for a level, at the lag that the unit chooses for a raise: its answer, and what it leaves.
+abbrev pub AskIs : Nature → ℕ → ℕ → Meaning → Result (Unit {0}) Fault → Meaning → Type 0
+AskIs n level lag u r u' = CallIs (ask_refusal n level u) (ask_with lag level u) u r u'
+
+-- A rest for some ticks: its answer, and what it leaves.
+abbrev pub RestIs : ℕ → Meaning → Result (Unit {0}) Fault → Meaning → Type 0
+RestIs ticks u r u' = CallIs (rest_refusal ticks u) (rest_for ticks u) u r u'
+
 -- Each call's relation holds exactly where the answer and what is left are those of its functions, at some lag within
 -- the allowance.
 pub record CallsAreFunctions : Type 0 where
   pub ask : (n : Nature) (level : ℕ) (u : Meaning) (r : Result (Unit {0}) Fault) (u' : Meaning) →
-      Asked n level u r u' ↔ ((lag : ℕ) × (lag ≤ n.raise) × CallIs (ask_refusal n level u) (ask_with lag level u) u r u')
+      Asked n level u r u' ↔ ((lag : ℕ) × (lag ≤ n.raise) × AskIs n level lag u r u')
   pub rest : (ticks : ℕ) (u : Meaning) (r : Result (Unit {0}) Fault) (u' : Meaning) →
-      Rested ticks u r u' ↔ CallIs (rest_refusal ticks u) (rest_for ticks u) u r u'
+      Rested ticks u r u' ↔ RestIs ticks u r u'
   pub tick : (n : Nature) (u u' : Meaning) → Ticked n u u' ↔ ((lag : ℕ) × (lag ≤ n.wake) × (u' ≡ tick_with lag u))

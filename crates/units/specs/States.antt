@@ -1,6 +1,7 @@
 -- The states of a ramp.
 use Rattle.std.specs.Prelude.{◌≡◌, Bool, true, ◌&&◌, nat_lt, refl}
-use Rattle.std.proofs.lemmas.Bool.{lt-ltb}
+use Rattle.std.proofs.Common.{arith}
+use Rattle.std.proofs.lemmas.Bool.Decides.{nat_tests}
 use Rattle.std.specs.Int.NonZero.{non_zero_u32_get}
 use Rattle.units.specs.Meaning.{Meaning, off}
 use Rattle.units.specs.declared.ramp.State.{State}
@@ -16,9 +17,9 @@ lasts (Asleep level left) = nat_lt 0 (non_zero_u32_get level) && nat_lt 0 (non_z
 -- Every state lasts: the types of its numbers say so.
 pub every_state_lasts : (s : State) → lasts s ≡ true
 every_state_lasts Off = refl
-every_state_lasts (Working level) = lt-ltb 0 _ level.ok
-every_state_lasts (Changing level left) = rw (lt-ltb 0 _ level.ok, lt-ltb 0 _ left.ok) refl
-every_state_lasts (Asleep level left) = rw (lt-ltb 0 _ level.ok, lt-ltb 0 _ left.ok) refl
+every_state_lasts (Working level) = grind (arith, nat_tests)
+every_state_lasts (Changing level left) = grind (arith, nat_tests)
+every_state_lasts (Asleep level left) = grind (arith, nat_tests)
 
 abbrev pub state_meaning : State → Meaning
 state_meaning Off = off

@@ -2,7 +2,7 @@
 ghost use Rattle.std.specs.Prelude.{◌≡◌, ◌≤◌, MatchResult, OnErr};
 ghost use Rattle.fault.specs.declared.Refusal.TheVariants.{BadDivider, UnitBusy};
 ghost use Rattle.fault.specs.Faults.{fault_at};
-ghost use Rattle.units.specs.Calls.{CallIs, ask_refusal, ask_with, tick_with};
+ghost use Rattle.units.specs.Calls.{AskIs, tick_with};
 ghost use Rattle.units.specs.Divider.{divides, divider_meaning, divider_nature};
 ghost use Rattle.units.specs.Meaning.{Ready, Busy, Asked, Ticked, off as nothing};
 ghost use Rattle.std.proofs.Common.{arith, rules};
@@ -66,7 +66,7 @@ impl SpeedUnit for Divider {
         ensures does { Asked (divider_nature self.old) level (divider_meaning self.old) result (divider_meaning self.new) }
         ensures fixed { divider_nature self.new ≡ divider_nature self.old }
         ensures kept { OnErr result (self.new ≡ self.old) }
-        ensures exact { CallIs (ask_refusal (divider_nature self.old) level (divider_meaning self.old)) (ask_with 0 level (divider_meaning self.old)) (divider_meaning self.old) result (divider_meaning self.new) }
+        ensures exact { AskIs (divider_nature self.old) level 0 (divider_meaning self.old) result (divider_meaning self.new) }
     {
         self.free()?;
         if !self.takes(level) {

@@ -4,7 +4,7 @@ ghost use Rattle.std.specs.Int.NonZero.{non_zero_u32_get};
 ghost use Rattle.fault.specs.declared.Refusal.TheVariants.{BadCount};
 ghost use Rattle.fault.specs.Faults.{fault_at};
 ghost use Rattle.tasks.specs.Tables.{listed};
-ghost use Rattle.units.specs.Calls.{CallIs, ask_refusal, ask_with, tick_with};
+ghost use Rattle.units.specs.Calls.{CallIs, AskIs, tick_with};
 ghost use Rattle.units.specs.Meaning.{Asked, Ticked, off as nothing};
 ghost use Rattle.units.specs.Ramp.{between, ramps, ramp_meaning, ramp_nature, ramp_refusal, ramp_after, Moves};
 ghost use Rattle.units.specs.Standing.{standing_meaning};
@@ -92,7 +92,7 @@ impl Ramp {
     }
 
     // The state after an ask that comes while a level, or 0 for off, is at work.
-    #[tactic(auto, using(crate::proofs::Ramping::zero_stands_not))]
+    #[tactic(auto, using(crate::specs::Ramping::stands_range))]
     fn asked(&self, old: u32, level: u32) -> Result<State, Refusal>
         ensures { Moves (listed self.now.levels) (Event.Ask level) (record { asked = old; lag = 0; rest = 0 }) result }
     {
@@ -159,7 +159,7 @@ impl SpeedUnit for Ramp {
         ensures does { Asked (ramp_nature self.old) level (ramp_meaning self.old) result (ramp_meaning self.new) }
         ensures fixed { ramp_nature self.new ≡ ramp_nature self.old }
         ensures kept { OnErr result (self.new ≡ self.old) }
-        ensures exact { CallIs (ask_refusal (ramp_nature self.old) level (ramp_meaning self.old)) (ask_with (between (ramp_meaning self.old).asked level (listed self.old.levels)) level (ramp_meaning self.old)) (ramp_meaning self.old) result (ramp_meaning self.new) }
+        ensures exact { AskIs (ramp_nature self.old) level (between (ramp_meaning self.old).asked level (listed self.old.levels)) (ramp_meaning self.old) result (ramp_meaning self.new) }
     {
         self.on(Event::Ask(level))
     }

@@ -1,6 +1,5 @@
 use Rattle.std.proofs.Common.{◌≡◌, ◌-◌, arith}
 use Rattle.std.proofs.lemmas.Bool.Decides.{nat_tests}
-use Rattle.std.specs.Int.NonZero.{non_zero_u32_get}
 use Rattle.units.proofs.ramp.Ramp.next.Goals as goal
 
 pub returns-in-None : goal.returns-in-None
