@@ -14,7 +14,7 @@ fn standing(asked: u32, lag: u32, rest: u32) -> Standing {
 
 // What a unit that refuses a call answers.
 fn refusal(refusal: Refusal) -> Result<(), Fault> {
-    Err(Fault::new(refusal, 0, 0))
+    Err(refusal.into())
 }
 
 #[test]
@@ -38,7 +38,9 @@ fn divider_wakes(rt: HostRuntime) -> Result<(), Fail> {
         ticks: 0,
     };
     unit.ask(6)?;
+    assert!(rt; unit.standing().is_ready());
     unit.rest(2)?;
+    assert!(rt; !unit.standing().is_ready());
     assert_eq!(rt; unit.ask(6), refusal(Refusal::UnitBusy));
     unit.tick();
     assert_eq!(rt; unit.standing(), standing(6, 0, 1));
@@ -74,13 +76,10 @@ fn divider_refuses_ranges(rt: HostRuntime) {
 // A ramp with the levels 100, 200 and 500.
 fn ramp(heap: Global) -> Result<Ramp, Fail> {
     let mut levels = LevelList::new(heap)?;
-    levels.add(0, 100)?;
-    levels.add(0, 200)?;
-    levels.add(0, 500)?;
-    match Ramp::new(levels) {
-        Ok(ramp) => Ok(ramp),
-        Err(back) => Err(Fail::from(back.fault)),
+    for level in [100, 200, 500] {
+        levels.add(0, level)?;
     }
+    Ok(Ramp::new(levels).map_err(Fault::from)?)
 }
 
 #[test]
@@ -122,7 +121,7 @@ fn ramp_refuses_no_levels(rt: HostRuntime) -> Result<(), Fail> {
     match Ramp::new(LevelList::new(rt.alloc())?) {
         Ok(_) => Err(Fail::new("an empty list is taken")),
         Err(back) => {
-            assert_eq!(rt; back.fault, Fault::new(Refusal::BadCount, 0, 0));
+            assert_eq!(rt; back.fault, Refusal::BadCount.into());
             assert!(rt; back.given.as_slice().is_empty());
             Ok(())
         }
