@@ -179,7 +179,7 @@ impl SpeedUnit for Ramp {
     }
 
     fn off(&mut self) {
-        // Nor is it to turn off.
+        // To turn off is never refused.
         self.on(Event::Off).unwrap();
     }
 
