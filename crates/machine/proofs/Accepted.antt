@@ -1,5 +1,5 @@
 -- What an accepted begin says of the unit and of the first releases.
-use Rattle.std.proofs.Common.{◌≡◌, ℕ, suc, ◌<◌, ◌≤◌, Bool, true, false, cond, not, ◌&&◌, ◌||◌, eqb, ltb, leb, List, [], ◌∷◌, length, get_or, Some, None, Option, refl, subst, ⊎_elim, arith}
+use Rattle.std.proofs.Common.{◌≡◌, ℕ, suc, ◌<◌, ◌≤◌, Bool, true, false, cond, not, ◌&&◌, ◌||◌, List, [], ◌∷◌, length, get_or, Some, None, Option, refl, subst, ⊎_elim, arith, nat_le, nat_lt, ◌==◌}
 use lib.ListN.{length-replicate, get_or-replicate}
 use Rattle.std.specs.Option.{option_map}
 use Rattle.std.proofs.lemmas.Bool.{both_ways, cond_both, eqb-true, le-leb, ltb-false, not-false, or_cases, and_cases}
@@ -59,28 +59,28 @@ accepted x p starts u planned none =
       rest = is.0;
       lag = is.1;
       takes = taken (place_none untaken 1 p.levels (mapped_none (λ i. fault_at LevelNotTaken 0 i) (place_of untaken 1 p.levels) n₃));
-      size = sized starts (cond_none (eqb (length starts) 0 || eqb (length starts) (length p.tasks)) (fault_at BadCount 0 0) n₁);
+      size = sized starts (cond_none (length starts == 0 || length starts == length p.tasks) (fault_at BadCount 0 0) n₁);
       after = later starts (place_none early 1 starts (mapped_none (λ i. fault_at EarlyStart 0 i) (place_of early 1 starts) n₄));
     }
   where
     untaken : ℕ → Bool
-    untaken g = leb g p.admitted && not (x.takes g)
+    untaken g = nat_le g p.admitted && not (x.takes g)
 
     early : ℕ → Bool
-    early a = ltb a x.raise
+    early a = nat_lt a x.raise
 
     taken : All (λ g. untaken g ≡ false) p.levels → x.takes p.admitted ≡ true
     taken all =
         any_all (λ g. g ≡ p.admitted) (λ g. untaken g ≡ false) (x.takes p.admitted ≡ true)
         (λ g e b. subst (λ (y : ℕ). x.takes y ≡ true) e
-        (⊎_elim (λ c. absurd (both_ways (leb g p.admitted) c (le-leb g p.admitted (omega arith)))) (λ c. not-false (x.takes g) c)
-        (and_cases (leb g p.admitted) (not (x.takes g)) b))) p.levels planned.listed all
+        (⊎_elim (λ c. absurd (both_ways (nat_le g p.admitted) c (le-leb g p.admitted (omega arith)))) (λ c. not-false (x.takes g) c)
+        (and_cases (nat_le g p.admitted) (not (x.takes g)) b))) p.levels planned.listed all
 
-    sized : (bs : List ℕ) → (eqb (length bs) 0 || eqb (length bs) (length p.tasks)) ≡ true → length (firsts x.raise p.tasks bs) ≡ length p.tasks
+    sized : (bs : List ℕ) → (length bs == 0 || length bs == length p.tasks) ≡ true → length (firsts x.raise p.tasks bs) ≡ length p.tasks
     sized [] e = length-replicate (length p.tasks) x.raise
     sized (b ∷ bs) e =
         ⊎_elim (λ z. absurd (omega (arith, eqb-true (suc (length bs)) 0 z))) (λ z. eqb-true (suc (length bs)) (length p.tasks) z)
-        (or_cases (eqb (suc (length bs)) 0) (eqb (suc (length bs)) (length p.tasks)) e)
+        (or_cases (suc (length bs) == 0) (suc (length bs) == length p.tasks) e)
 
     later : (bs : List ℕ) → All (λ a. early a ≡ false) bs → (k : ℕ) → k < length (firsts x.raise p.tasks bs) → x.raise ≤ get_or (firsts x.raise p.tasks bs) k 0
     later [] a k h =

@@ -1,5 +1,5 @@
 -- After an accepted begin, what should hold of a run holds.
-use Rattle.std.proofs.Common.{◌≡◌, ℕ, zero, suc, ◌+◌, ◌<◌, ◌≤◌, ltb, ◌≢◌, List, [], ◌∷◌, length, get_or, replicate, None, sym, refl, ap, subst, inl, arith}
+use Rattle.std.proofs.Common.{◌≡◌, ℕ, zero, suc, ◌+◌, ◌<◌, ◌≤◌, ◌≢◌, List, [], ◌∷◌, length, get_or, replicate, None, sym, refl, ap, subst, inl, arith, nat_lt}
 use lib.ListN.{length-replicate}
 use Rattle.std.proofs.lemmas.Bool.{cond_both}
 use Rattle.queue.specs.declared.Entry.{Entry}
@@ -97,7 +97,7 @@ begin_holds x p starts l u planned within a =
 
     low : ahead x.wake u' ≤ x.raise
     low =
-        let lag_low : u'.lag ≤ x.raise = cond_both (ltb u.asked p.admitted) l.back u.lag (λ y. y ≤ x.raise) (λ _. within) (λ _. omega (arith, a.lag)) in
+        let lag_low : u'.lag ≤ x.raise = cond_both (nat_lt u.asked p.admitted) l.back u.lag (λ y. y ≤ x.raise) (λ _. within) (λ _. omega (arith, a.lag)) in
         omega (arith, ahead_lag x.wake u' a.rest)
 
     shape : Shape rows (put_all 0 bs []) [] None

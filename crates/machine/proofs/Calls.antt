@@ -1,5 +1,5 @@
 -- Every word keeps what holds.
-use Rattle.std.proofs.Common.{◌≡◌, ℕ, suc, ◌-◌, ◌*◌, ◌<◌, ◌≤◌, Bool, true, eqb, leb, List, ◌∷◌, length, Some, None, Option, sym, refl, ap, ◌∙◌, subst, inl, inr, ⊎_elim, arith}
+use Rattle.std.proofs.Common.{◌≡◌, ℕ, suc, ◌-◌, ◌*◌, ◌<◌, ◌≤◌, Bool, true, List, ◌∷◌, length, Some, None, Option, sym, refl, ap, ◌∙◌, subst, inl, inr, ⊎_elim, arith, nat_le, ◌==◌}
 use Rattle.std.proofs.lemmas.Bool.{cases_lt, cond_both, cond-false, eqb-true, ne_eqb}
 use Rattle.fault.specs.declared.Fault.{Fault}
 use Rattle.fault.specs.declared.Refusal.TheVariants.{CountFull, NothingGiven}
@@ -58,7 +58,7 @@ module _ (x : Nature) (p : Plan) (planned : Planned p) (takes : x.takes p.admitt
       (record {
         shape = held.shape;
         kept = kept_told p.tasks first (tallies p h) (tallies p h') s.jobs rows
-            (λ k. cond-false (eqb 0 (suc k)) (gets (task_at p.tasks k) said 0 (tallies p h k)) (tallies p h k) (ne_eqb 0 (suc k) (λ e. omega arith))) held.kept;
+            (λ k. cond-false (0 == suc k) (gets (task_at p.tasks k) said 0 (tallies p h k)) (tallies p h k) (ne_eqb 0 (suc k) (λ e. omega arith))) held.kept;
         sound = sound_anew f (suc n) (ahead x.wake u') rows (subst (Passing f) (sym held.kept.table) (passing p planned)) a.sound.valid
             (λ k hk. (none k hk, ⊎_elim (λ b. omega (arith, (a.sound.quiet b k hk).1, fewer)) (λ b. omega (arith, held.later k hk, fewer)) (cases_lt 0 (ahead x.wake u))));
       })
@@ -84,7 +84,7 @@ module _ (x : Nature) (p : Plan) (planned : Planned p) (takes : x.takes p.admitt
   runs_full : (d q : List Entry) (i : ℕ) (js : List Job) (held : Held x p first (tallies p h) n (inner d q (Some i) js) (record { pace = Full; unit = u })) →
       AtFull f x.wake n held.rows (record { pace = Full; unit = u }) → After (run_active x p l said (Some i) (state_of x n (inner d q (Some i) js) Full) u)
   runs_full d q i js held a =
-      cond_both {A = Result} (eqb (works u) 0) (run_none x p l said (state_of x n (inner d q (Some i) js) Full) u) (run_row x p l said i (state_of x n (inner d q (Some i) js) Full) u) After
+      cond_both {A = Result} (works u == 0) (run_none x p l said (state_of x n (inner d q (Some i) js) Full) u) (run_row x p l said i (state_of x n (inner d q (Some i) js) Full) u) After
       (λ e.
       let act = held.shape.acting i refl in
       absurd (omega (arith, eqb-true (works u) 0 e, (full_works f x.wake n held.rows (record { pace = Full; unit = u }) a i act.0 act.1).1, planned.level)))
@@ -94,7 +94,7 @@ module _ (x : Nature) (p : Plan) (planned : Planned p) (takes : x.takes p.admitt
   runs_slow : (d q : List Entry) (i : ℕ) (js : List Job) (held : Held x p first (tallies p h) n (inner d q (Some i) js) (record { pace = Slowed i; unit = u })) →
       AtSlow f x.raise n held.rows q (Some i) i (record { pace = Slowed i; unit = u }) → After (run_active x p l said (Some i) (state_of x n (inner d q (Some i) js) (Slowed i)) u)
   runs_slow d q i js held b =
-      cond_both {A = Result} (eqb (works u) 0) (run_none x p l said (state_of x n (inner d q (Some i) js) (Slowed i)) u) (run_row x p l said i (state_of x n (inner d q (Some i) js) (Slowed i)) u) After
+      cond_both {A = Result} (works u == 0) (run_none x p l said (state_of x n (inner d q (Some i) js) (Slowed i)) u) (run_row x p l said i (state_of x n (inner d q (Some i) js) (Slowed i)) u) After
       (λ e.
       let z : u.asked ≡ 0 = sym (works_is u b.rest b.lag) ∙ eqb-true (works u) 0 e in
       absurd (omega (arith, b.enough, (held.shape.acting i refl).1, ap (λ (y : ℕ). y * b.window) z)))
@@ -143,7 +143,7 @@ module _ (x : Nature) (p : Plan) (planned : Planned p) (takes : x.takes p.admitt
   -- A tick keeps what holds, also where the count is at its end.
   tick_holds : (s : Inner) (pace : Pace) → Held x p first (tallies p h) n s (record { pace = pace; unit = u }) → After (tick x p l said (state_of x n s pace) u)
   tick_holds s pace held =
-      cond_both {A = Result} (leb 1000000000 n) (record { reply = Refused (fault_at CountFull 0 0); now = same (state_of x n s pace) u })
+      cond_both {A = Result} (nat_le 1000000000 n) (record { reply = Refused (fault_at CountFull 0 0); now = same (state_of x n s pace) u })
       (run_active x p l said s.active (state_of x n s pace) u) After (λ _. unchanged s pace (fault_at CountFull 0 0) held)
       (λ _. active_holds s.delay s.queue s.active s.jobs pace held)
 

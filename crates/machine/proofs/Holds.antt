@@ -1,5 +1,5 @@
 -- What holds of a run with its history, and that it holds after a settling.
-use Rattle.std.proofs.Common.{◌≡◌, ℕ, ◌<◌, ◌≤◌, true, ltb, List, sym, refl, subst, arith}
+use Rattle.std.proofs.Common.{◌≡◌, ℕ, ◌<◌, ◌≤◌, true, List, sym, refl, subst, arith, nat_lt}
 use Rattle.std.proofs.lemmas.Bool.{cond-true, lt-ltb, and_from}
 use Rattle.theory.specs.Ticks.{Row}
 use Rattle.units.specs.Calls.{ask_with}
@@ -82,4 +82,4 @@ settle_over x p first planned takes l n h s rows u told le r g below stage =
         (and_from (ready u) (x.takes p.admitted) (ready_from u r g) takes)
 
     lag_is : u'.lag ≡ l.back
-    lag_is = cond-true (ltb u.asked p.admitted) l.back u.lag (lt-ltb u.asked p.admitted below)
+    lag_is = cond-true (nat_lt u.asked p.admitted) l.back u.lag (lt-ltb u.asked p.admitted below)

@@ -1,5 +1,5 @@
 -- The theory's invariant of each row, under the writes that a run makes: a release, a service, a new start.
-use Rattle.std.proofs.Common.{◌≡◌, ℕ, zero, suc, ◌+◌, ◌<◌, ◌≤◌, Bool, eqb, List, [], ◌∷◌, length, set, sym, refl, ap, subst, ⊎_elim, arith, length-set}
+use Rattle.std.proofs.Common.{◌≡◌, ℕ, zero, suc, ◌+◌, ◌<◌, ◌≤◌, Bool, List, [], ◌∷◌, length, set, sym, refl, ap, subst, ⊎_elim, arith, length-set, ◌==◌}
 use Rattle.std.proofs.lemmas.Bool.{cases_lt, cond-true, eq-eqb}
 use Rattle.theory.specs.Lists.{All}
 use Rattle.theory.specs.Tasks.{Task, Valid, cdiv}
@@ -74,7 +74,7 @@ sound_fresh f n a rows i p hi due s = record {
     next_is = omega (arith, s.coming i hi)
 
     same : released n r ≡ v
-    same = cond-true (eqb r.next n) (fresh n r) r (eq-eqb r.next n next_is)
+    same = cond-true (r.next == n) (fresh n r) r (eq-eqb r.next n next_is)
 
     moved : (k : ℕ) → Inv f n k rows → Inv f n k (set rows i v)
     moved k (e, before, fits, aims) = (

@@ -1,5 +1,5 @@
 -- The order of the entries of the two queues, and an entry put into each.
-use Rattle.std.proofs.Common.{◌≡◌, ℕ, ◌<◌, ◌≤◌, true, false, eqb, ltb, leb, ◌≢◌, List, sym, ◌∙◌, arith}
+use Rattle.std.proofs.Common.{◌≡◌, ℕ, ◌<◌, ◌≤◌, true, false, ◌≢◌, List, sym, ◌∙◌, arith, nat_le, nat_lt, ◌==◌}
 use Rattle.std.proofs.lemmas.Bool.{cond_both, cond-true, leb-true, leb-false, ltb-true, ltb-false, eqb-true, eq-eqb}
 use Rattle.queue.specs.declared.Entry.{Entry}
 use Rattle.queue.specs.Entries.{sooner}
@@ -19,18 +19,18 @@ Rising x y = x.row < y.row
 -- What goes before has no greater key.
 sooner_true : (a b : Entry) → sooner a b ≡ true → a.key ≤ b.key
 sooner_true a b h =
-    (cond_both (eqb a.key b.key) (leb a.row b.row) (ltb a.key b.key) (λ t. t ≡ true → a.key ≤ b.key)
+    (cond_both (a.key == b.key) (nat_le a.row b.row) (nat_lt a.key b.key) (λ t. t ≡ true → a.key ≤ b.key)
     (λ e _. omega (arith, eqb-true a.key b.key e)) (λ _ t. omega (arith, ltb-true a.key b.key t))) h
 
 -- What does not go before has no smaller key.
 sooner_false : (a b : Entry) → sooner a b ≡ false → b.key ≤ a.key
 sooner_false a b h =
-    (cond_both (eqb a.key b.key) (leb a.row b.row) (ltb a.key b.key) (λ t. t ≡ false → b.key ≤ a.key)
+    (cond_both (a.key == b.key) (nat_le a.row b.row) (nat_lt a.key b.key) (λ t. t ≡ false → b.key ≤ a.key)
     (λ e _. omega (arith, eqb-true a.key b.key e)) (λ _ t. ltb-false a.key b.key t)) h
 
 -- At equal keys the rows decide.
-sooner_rows : (a b : Entry) → a.key ≡ b.key → sooner a b ≡ leb a.row b.row
-sooner_rows a b e = cond-true (eqb a.key b.key) (leb a.row b.row) (ltb a.key b.key) (eq-eqb a.key b.key e)
+sooner_rows : (a b : Entry) → a.key ≡ b.key → sooner a b ≡ nat_le a.row b.row
+sooner_rows a b e = cond-true (a.key == b.key) (nat_le a.row b.row) (nat_lt a.key b.key) (eq-eqb a.key b.key e)
 
 -- At equal keys, what goes before has the smaller row, or the same.
 pub rows_true : (a b : Entry) → a.key ≡ b.key → sooner a b ≡ true → a.row ≤ b.row

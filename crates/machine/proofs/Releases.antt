@@ -1,5 +1,5 @@
 -- The releases of a settling: the queues, the records and the theory's invariant hold through them.
-use Rattle.std.proofs.Common.{◌≡◌, ℕ, ◌<◌, ◌≤◌, true, false, leb, List, [], ◌∷◌, set, Option, sym, ◌∙◌, subst, arith}
+use Rattle.std.proofs.Common.{◌≡◌, ℕ, ◌<◌, ◌≤◌, true, false, List, [], ◌∷◌, set, Option, sym, ◌∙◌, subst, arith, nat_le}
 use Rattle.std.proofs.lemmas.Bool.{cond_both, leb-true, leb-false}
 use Rattle.queue.specs.declared.Entry.{Entry}
 use Rattle.queue.specs.Entries.{sooner}
@@ -33,7 +33,7 @@ pub loosed : (f n a : ℕ) (ts : List Task) (first : List ℕ) (c : ℕ → Tall
     Stage f n a ts first c (record { delay = d; queue = q; active = act; jobs = js }) rows → Loosed f n a ts first c (released ts n d q act js)
 loosed f n a ts first c pass [] q act js rows g = (rows, g, tt)
 loosed f n a ts first c pass (e ∷ es) q act js rows g =
-    cond_both (leb e.key n)
+    cond_both (nat_le e.key n)
     (released ts n es (ordered sooner (in_line i) q) act (set js i (new_job (task_at ts i) e.key)))
     (record { delay = e ∷ es; queue = q; active = act; jobs = js }) (Loosed f n a ts first c)
     (λ t.
@@ -47,7 +47,7 @@ loosed f n a ts first c pass (e ∷ es) q act js rows g =
     entry : Delayed rows e
     entry = g.shape.delayed.0
 
-    popped : leb e.key n ≡ true →
+    popped : nat_le e.key n ≡ true →
         Stage f n a ts first c (record { delay = es; queue = ordered sooner (in_line i) q; active = act; jobs = set js i (new_job (task_at ts i) e.key) })
         (set rows i (fresh n (row_at rows i)))
     popped t =
@@ -61,7 +61,7 @@ loosed f n a ts first c pass (e ∷ es) q act js rows g =
           sound = sound_fresh f n a rows i (subst (Passing f) (sym g.kept.table) pass) entry.0 due g.sound;
         }
 
-    done : leb e.key n ≡ false → Loosed f n a ts first c (record { delay = e ∷ es; queue = q; active = act; jobs = js })
+    done : nat_le e.key n ≡ false → Loosed f n a ts first c (record { delay = e ∷ es; queue = q; active = act; jobs = js })
     done t =
         let lt = leb-false e.key n t in
         (rows, g, (lt, all_imp (Apart e) (λ x. n < x.key) (λ x p. omega (arith, p.0)) es g.shape.sorted.0))

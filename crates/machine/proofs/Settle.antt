@@ -1,5 +1,5 @@
 -- Settling: what holds after it, at the admitted level or slowed.
-use Rattle.std.proofs.Common.{◌≡◌, ℕ, ◌+◌, ◌-◌, ◌*◌, ◌<◌, ◌≤◌, min, true, ◌&&◌, eqb, ltb, leb, ◌≢◌, ◌⊎◌, List, [], ◌∷◌, length, get_or, Some, None, Option, sym, refl, ap, ◌∙◌, subst, inl, inr, ⊎_elim, arith}
+use Rattle.std.proofs.Common.{◌≡◌, ℕ, ◌+◌, ◌-◌, ◌*◌, ◌<◌, ◌≤◌, min, true, ◌&&◌, ◌≢◌, ◌⊎◌, List, [], ◌∷◌, length, get_or, Some, None, Option, sym, refl, ap, ◌∙◌, subst, inl, inr, ⊎_elim, arith, nat_le, nat_lt, ◌==◌}
 use Rattle.std.proofs.lemmas.Bool.{cases_lt, cond_both, cond-false, leb-true, ltb-true, le-ltb, ne_eqb, and_parts}
 use Rattle.queue.specs.declared.Entry.{Entry}
 use Rattle.queue.specs.Entries.{sooner}
@@ -77,7 +77,7 @@ sound_less f n a b rows le s =
 enough_is : (w need : ℕ) (gs : List ℕ) (P : Option ℕ → Type 0) → P None → ((g : ℕ) → need ≤ g * w → P (Some g)) → P (enough_in w need gs)
 enough_is w need [] P none some = none
 enough_is w need (g ∷ gs) P none some =
-    cond_both (leb need (g * w)) (Some g) (enough_in w need gs) P (λ e. some g (leb-true need (g * w) e)) (λ e. enough_is w need gs P none some)
+    cond_both (nat_le need (g * w)) (Some g) (enough_in w need gs) P (λ e. some g (leb-true need (g * w) e)) (λ e. enough_is w need gs P none some)
 
 -- The window ends by the deadline.
 end_due : (due : ℕ) (d : List Entry) → window_end due d ≤ due
@@ -113,8 +113,8 @@ module _ (x : Nature) (p : Plan) (l n a : ℕ) (first : List ℕ) (c : ℕ → T
       cond_both (may_rest t u) (rest_for t u) u (λ y. After s (full y))
       (λ b.
       let b' = (and_parts (ready u) _ b).1 in
-      let pos = ltb-true 0 t (and_parts (ltb 0 t) _ b').0 in
-      let is : ahead x.wake (rest_for t u) ≡ t + x.wake = cond-false (eqb t 0) u.lag (t + x.wake) (ne_eqb t 0 (λ z. omega arith)) in
+      let pos = ltb-true 0 t (and_parts (nat_lt 0 t) _ b').0 in
+      let is : ahead x.wake (rest_for t u) ≡ t + x.wake = cond-false (t == 0) u.lag (t + x.wake) (ne_eqb t 0 (λ z. omega arith)) in
       inl (record {
         pace = refl;
         asked = asked;
@@ -144,12 +144,12 @@ module _ (x : Nature) (p : Plan) (l n a : ℕ) (first : List ℕ) (c : ℕ → T
       After (record { delay = d; queue = []; active = Some i; jobs = js })
       (slow_for x p l n x.raise i (record { delay = d; queue = []; active = Some i; jobs = js }) u)
   slowing d js i u asked rd le g =
-      cond_both (ltb 0 w) (slow_to x f l i (enough_in w need p.levels) u) (full u) (After s)
+      cond_both (nat_lt 0 w) (slow_to x f l i (enough_in w need p.levels) u) (full u) (After s)
       (λ e.
       enough_is w need p.levels (λ o. After s (slow_to x f l i o u)) (stay s u asked le g)
       (λ lv le'.
-      cond_both (ltb lv f && may_ask x lv u) (record { pace = Slowed i; unit = ask_with l lv u }) (full u) (After s)
-      (λ b. inr (i, made (ltb-true 0 w e) lv le' (ltb-true lv f (and_parts (ltb lv f) (may_ask x lv u) b).0)))
+      cond_both (nat_lt lv f && may_ask x lv u) (record { pace = Slowed i; unit = ask_with l lv u }) (full u) (After s)
+      (λ b. inr (i, made (ltb-true 0 w e) lv le' (ltb-true lv f (and_parts (nat_lt lv f) (may_ask x lv u) b).0)))
       (λ _. stay s u asked le g)))
       (λ _. stay s u asked le g)
     where
@@ -187,7 +187,7 @@ module _ (x : Nature) (p : Plan) (l n a : ℕ) (first : List ℕ) (c : ℕ → T
             active = refl;
             alone = refl;
             rest = z.0;
-            lag = cond-false (ltb u.asked lv) l u.lag (le-ltb u.asked lv (omega arith)) ∙ z.1;
+            lag = cond-false (nat_lt u.asked lv) l u.lag (le-ltb u.asked lv (omega arith)) ∙ z.1;
             below = below;
             enough = omega (arith, live.left, ap (λ (y : Task). y.work) is);
             due = omega (arith, live.due, end_due j.due d);

@@ -1,5 +1,5 @@
 -- A tick in which the active row runs: what holds goes on holding.
-use Rattle.std.proofs.Common.{◌≡◌, ℕ, suc, ◌+◌, ◌-◌, ◌*◌, ◌<◌, ◌≤◌, min, Bool, true, false, cond, ◌||◌, eqb, leb, ◌≢◌, List, [], ◌∷◌, length, get_or, set, Some, None, Option, sym, refl, ap, ◌∙◌, subst, inr, ⊎_elim, arith}
+use Rattle.std.proofs.Common.{◌≡◌, ℕ, suc, ◌+◌, ◌-◌, ◌*◌, ◌<◌, ◌≤◌, min, Bool, true, false, cond, ◌||◌, ◌≢◌, List, [], ◌∷◌, length, get_or, set, Some, None, Option, sym, refl, ap, ◌∙◌, subst, inr, ⊎_elim, arith, nat_le, ◌==◌}
 use Rattle.std.proofs.lemmas.List.{get_or-set_same}
 use Rattle.std.proofs.lemmas.Bool.{cases_lt, cond_both, cond-true, cond-false, lt-leb, eqb-true, eqb-false, eq-eqb, ne_eqb, or_parts}
 use Rattle.queue.specs.declared.Entry.{Entry}
@@ -34,7 +34,7 @@ released_none : (ts : List Task) (n : ℕ) (d q : List Entry) (a : Option ℕ) (
     released ts n d q a js ≡ record { delay = d; queue = q; active = a; jobs = js }
 released_none ts n [] q a js h = refl
 released_none ts n (e ∷ es) q a js h =
-    cond-false (leb e.key n)
+    cond-false (nat_le e.key n)
     (released ts n es (ordered sooner (in_line e.row) q) a (set js e.row (new_job (task_at ts e.row) e.key)))
     (record { delay = e ∷ es; queue = q; active = a; jobs = js }) (lt-leb e.key n h.0)
 
@@ -43,28 +43,28 @@ elect_none : (s : Inner) → s.queue ≡ [] → elect s ≡ s
 elect_none s e = subst (λ (y : List Entry). elected y s.active s ≡ s) (sym e) refl
 
 -- What the history tells of a row whose job is finished.
-told_end : (t : Task) (said : Bool) (m g : ℕ) (c : Tally) → c.units ≡ g → (said || eqb (g + m) t.work) ≡ true →
+told_end : (t : Task) (said : Bool) (m g : ℕ) (c : Tally) → c.units ≡ g → (said || g + m == t.work) ≡ true →
     gets t said m c ≡ record { finished = suc c.finished; units = 0 }
 told_end t said m g c e h =
-    cond-true (said || eqb (c.units + m) t.work) (record { finished = suc c.finished; units = 0 }) (record { finished = c.finished; units = c.units + m })
-    (subst (λ (y : ℕ). (said || eqb (y + m) t.work) ≡ true) (sym e) h)
+    cond-true (said || c.units + m == t.work) (record { finished = suc c.finished; units = 0 }) (record { finished = c.finished; units = c.units + m })
+    (subst (λ (y : ℕ). (said || y + m == t.work) ≡ true) (sym e) h)
 
 -- What the history tells of a row whose job goes on.
-told_on : (t : Task) (said : Bool) (m g : ℕ) (c : Tally) → c.units ≡ g → (said || eqb (g + m) t.work) ≡ false →
+told_on : (t : Task) (said : Bool) (m g : ℕ) (c : Tally) → c.units ≡ g → (said || g + m == t.work) ≡ false →
     gets t said m c ≡ record { finished = c.finished; units = c.units + m }
 told_on t said m g c e h =
-    cond-false (said || eqb (c.units + m) t.work) (record { finished = suc c.finished; units = 0 }) (record { finished = c.finished; units = c.units + m })
-    (subst (λ (y : ℕ). (said || eqb (y + m) t.work) ≡ false) (sym e) h)
+    cond-false (said || c.units + m == t.work) (record { finished = suc c.finished; units = 0 }) (record { finished = c.finished; units = c.units + m })
+    (subst (λ (y : ℕ). (said || y + m == t.work) ≡ false) (sym e) h)
 
 -- A finished job has nothing left.
-nothing_left : (lv : ℕ) (said : Bool) (g w rem : ℕ) → rem + g ≡ w → (said || eqb (g + min lv (w - g)) w) ≡ true → cond said 0 (rem - lv) ≡ 0
+nothing_left : (lv : ℕ) (said : Bool) (g w rem : ℕ) → rem + g ≡ w → (said || g + min lv (w - g) == w) ≡ true → cond said 0 (rem - lv) ≡ 0
 nothing_left lv true g w rem e h = refl
 nothing_left lv false g w rem e h = omega (arith, eqb-true (g + min lv (w - g)) w h)
 
 -- A job that goes on was given the whole level, and has more left.
-more_left : (lv : ℕ) (said : Bool) (g w rem : ℕ) → rem + g ≡ w → (said || eqb (g + min lv (w - g)) w) ≡ false → (said ≡ false) × (min lv (w - g) ≡ lv) × (lv < rem)
+more_left : (lv : ℕ) (said : Bool) (g w rem : ℕ) → rem + g ≡ w → (said || g + min lv (w - g) == w) ≡ false → (said ≡ false) × (min lv (w - g) ≡ lv) × (lv < rem)
 more_left lv said g w rem e h =
-    let parts = or_parts said (eqb (g + min lv (w - g)) w) h in
+    let parts = or_parts said (g + min lv (w - g) == w) h in
     let ne = eqb-false (g + min lv (w - g)) w parts.1 in
     let lt : lv < rem = ⊎_elim (λ y. y) (λ y. absurd (ne (omega arith))) (cases_lt lv rem) in
     (parts.0, omega arith, lt)
@@ -96,7 +96,7 @@ module _ (x : Nature) (p : Plan) (planned : Planned p) (takes : x.takes p.admitt
   s = record { delay = d; queue = q; active = Some i; jobs = js }
 
   abbrev whole : Bool
-  whole = eqb (g + m) t.work
+  whole = g + m == t.work
 
   -- The history after the tick, and the rows.
   abbrev h' : History
@@ -129,11 +129,11 @@ module _ (x : Nature) (p : Plan) (planned : Planned p) (takes : x.takes p.admitt
 
   -- The history tells the same of the other rows.
   others : (k : ℕ) → k ≢ i → tallies p h' k ≡ tallies p h k
-  others k ne = cond-false (eqb (suc i) (suc k)) (gets (task_at ts k) said m (tallies p h k)) (tallies p h k) (ne_eqb (suc i) (suc k) (λ e. ne (omega arith)))
+  others k ne = cond-false (suc i == suc k) (gets (task_at ts k) said m (tallies p h k)) (tallies p h k) (ne_eqb (suc i) (suc k) (λ e. ne (omega arith)))
 
   -- The history tells of the active row that it got its units.
   mine : tallies p h' i ≡ gets t said m (tallies p h i)
-  mine = cond-true (eqb (suc i) (suc i)) (gets t said m (tallies p h i)) (tallies p h i) (eq-eqb (suc i) (suc i) refl)
+  mine = cond-true (suc i == suc i) (gets t said m (tallies p h i)) (tallies p h i) (eq-eqb (suc i) (suc i) refl)
 
   -- Where the job goes on, it was not said to have ended, got the whole level, and has more left.
   on_facts : (said || whole) ≡ false → (said ≡ false) × (m ≡ lv) × (lv < r.rem)
@@ -227,7 +227,7 @@ module _ (x : Nature) (p : Plan) (planned : Planned p) (takes : x.takes p.admitt
 
       ends : (said || whole) ≡ true → After (pass x p l (finish i (give i m s)) (pace_after i (Slowed i)) (state_of x n s (Slowed i)) u)
       ends e =
-          subst (λ (y : Pace). After (pass x p l (finish i (give i m s)) y (state_of x n s (Slowed i)) u)) (sym (cond-true (eqb i i) Over (Slowed i) (eq-eqb i i refl)))
+          subst (λ (y : Pace). After (pass x p l (finish i (give i m s)) y (state_of x n s (Slowed i)) u)) (sym (cond-true (i == i) Over (Slowed i) (eq-eqb i i refl)))
           (settle_over x p first planned takes l (suc n) h' (finish i (give i m s)) rows' u' (ap suc told) within.back still.0 still.1 b.below
           (record {
             shape = end_shape e;

@@ -1,12 +1,12 @@
 -- The unit of a run: when it works, and what a tick leaves.
-use Rattle.std.proofs.Common.{◌≡◌, ℕ, ◌+◌, ◌-◌, ◌≤◌, true, cond, eqb, arith}
+use Rattle.std.proofs.Common.{◌≡◌, ℕ, ◌+◌, ◌-◌, ◌≤◌, true, cond, arith, ◌==◌}
 use Rattle.std.proofs.lemmas.Bool.Decides.{nat_tests}
 use Rattle.units.specs.Calls.{tick_with}
 use Rattle.units.specs.Meaning.{Meaning, ready, works}
 
 -- The ticks for which a unit may not work yet, where k is the wake allowance.
 abbrev pub ahead : ℕ → Meaning → ℕ
-ahead k u = cond (eqb u.rest 0) u.lag (u.rest + k)
+ahead k u = cond (u.rest == 0) u.lag (u.rest + k)
 
 -- A ready unit neither rests nor lags.
 pub ready_is : (u : Meaning) → ready u ≡ true → (u.rest ≡ 0) × (u.lag ≡ 0)

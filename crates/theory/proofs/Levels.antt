@@ -1,5 +1,5 @@
 -- The lowest level that passes: it is listed, its answers are there, and the levels before it have none.
-use Rattle.std.proofs.Common.{◌≡◌, ℕ, ◌+◌, ◌<◌, Bool, true, ◌&&◌, ltb, List, [], ◌∷◌, ◌++◌, length, get_or, drop, Some, None, Option, sym, refl, ap, ◌∙◌, subst, inl, inr, ⊎_elim, arith}
+use Rattle.std.proofs.Common.{◌≡◌, ℕ, ◌+◌, ◌<◌, Bool, true, ◌&&◌, List, [], ◌∷◌, ◌++◌, length, get_or, drop, Some, None, Option, sym, refl, ap, ◌∙◌, subst, inl, inr, ⊎_elim, arith, nat_lt}
 use Rattle.std.proofs.lemmas.List.{drop_more}
 use Rattle.std.proofs.lemmas.Bool.{and_parts, ltb-true}
 use Rattle.theory.specs.Lists.{In}
@@ -10,7 +10,7 @@ use Rattle.theory.proofs.Lists.{in_right, in_either}
 -- The levels rise, from above `low` on.
 abbrev pub rising : ℕ → List ℕ → Bool
 rising low [] = true
-rising low (x ∷ xs) = ltb low x && rising x xs
+rising low (x ∷ xs) = nat_lt low x && rising x xs
 
 -- The level f is listed, and the levels before it have no answers.
 abbrev pub NoneBefore : ℕ → List ℕ → List Task → Type 0
@@ -55,14 +55,14 @@ lowest_finds fs table f found e =
 rises : (low : ℕ) (fs : List ℕ) (g : ℕ) → rising low fs ≡ true → In g fs → low < g
 rises low [] g a m = absurd m
 rises low (f ∷ fs) g a m =
-    let both = and_parts (ltb low f) (rising f fs) a in
+    let both = and_parts (nat_lt low f) (rising f fs) a in
     let here = ltb-true low f both.0 in
     ⊎_elim (λ e. omega arith) (λ i. omega (arith, rises f fs g both.1 i)) m
 
 -- The end of a rising list rises from the level before it.
 rises_after : (low : ℕ) (before : List ℕ) (f : ℕ) (after : List ℕ) → rising low (before ++ (f ∷ after)) ≡ true → rising f after ≡ true
-rises_after low [] f after a = (and_parts (ltb low f) (rising f after) a).1
-rises_after low (x ∷ before) f after a = rises_after x before f after (and_parts (ltb low x) (rising x (before ++ (f ∷ after))) a).1
+rises_after low [] f after a = (and_parts (nat_lt low f) (rising f after) a).1
+rises_after low (x ∷ before) f after a = rises_after x before f after (and_parts (nat_lt low x) (rising x (before ++ (f ∷ after))) a).1
 
 -- Where the levels rise, no listed level below the one that `lowest` gives has answers.
 pub lowest_first : (low : ℕ) (fs : List ℕ) (table : List Task) (f : ℕ) (found : List (ℕ × ℕ)) → rising low fs ≡ true →

@@ -1,5 +1,5 @@
 -- The listed points of a row: its deadline, and the multiples of the rows' periods up to it.
-use Rattle.std.proofs.Common.{◌≡◌, ℕ, zero, suc, ◌*◌, ◌/◌, ◌≤◌, leb, ◌⊎◌, List, [], ◌∷◌, sym, subst, inl, inr, ⊎_elim, mul-le-mul_left, arith}
+use Rattle.std.proofs.Common.{◌≡◌, ℕ, zero, suc, ◌*◌, ◌/◌, ◌≤◌, ◌⊎◌, List, [], ◌∷◌, sym, subst, inl, inr, ⊎_elim, mul-le-mul_left, arith, nat_le}
 use Rattle.std.proofs.lemmas.Bool.{cases_lt, cond_both, leb-true, leb-false}
 use Rattle.theory.specs.Lists.{All, Any, In}
 use Rattle.theory.specs.Tasks.{Task, Valid}
@@ -22,7 +22,7 @@ Listed d p n t = (m : ℕ) × (1 ≤ m) × (m ≤ n) × (t ≡ m * p) × (t ≤ 
 multiples_are : (d p n t : ℕ) → In t (multiples d p n) → Listed d p n t
 multiples_are d p zero t a = absurd a
 multiples_are d p (suc n) t a =
-    (cond_both (leb (suc n * p) d) (suc n * p ∷ multiples d p n) (multiples d p n) (λ l. In t l → Listed d p (suc n) t)
+    (cond_both (nat_le (suc n * p) d) (suc n * p ∷ multiples d p n) (multiples d p n) (λ l. In t l → Listed d p (suc n) t)
     (λ e b. ⊎_elim (λ q. (suc n, omega arith, omega arith, sym q, omega (arith, leb-true (suc n * p) d e))) (λ c. up (multiples_are d p n t c)) b)
     (λ e b. up (multiples_are d p n t b))) a
   where
@@ -33,7 +33,7 @@ multiples_are d p (suc n) t a =
 multiples_have : (d p n t : ℕ) → Listed d p n t → In t (multiples d p n)
 multiples_have d p zero t (m, some, few, e, low) = absurd (omega arith)
 multiples_have d p (suc n) t (m, some, few, e, low) =
-    cond_both (leb (suc n * p) d) (suc n * p ∷ multiples d p n) (multiples d p n) (In t)
+    cond_both (nat_le (suc n * p) d) (suc n * p ∷ multiples d p n) (multiples d p n) (In t)
     (λ q. ⊎_elim (λ h. inr (multiples_have d p n t (m, some, omega arith, e, low))) (λ h. inl (here h)) (cases_lt m (suc n)))
     (λ q. ⊎_elim (λ h. multiples_have d p n t (m, some, omega arith, e, low)) (λ h. absurd (omega (arith, here h, leb-false (suc n * p) d q)))
     (cases_lt m (suc n)))

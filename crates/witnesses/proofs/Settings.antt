@@ -1,5 +1,5 @@
 -- The plan of the witnesses is admitted, its begins are accepted, and their units keep their allowances.
-use Rattle.std.proofs.Common.{ℕ, ◌≤◌, ◌&&◌, ltb, leb, refl, inl, inr, lit≤}
+use Rattle.std.proofs.Common.{ℕ, ◌≤◌, ◌&&◌, refl, inl, inr, lit≤, nat_le, nat_lt}
 use Rattle.std.proofs.lemmas.List.Sums.{count_by-le-length}
 use Rattle.theory.specs.Lists.{All}
 use Rattle.theory.specs.Tasks.{Valid}
@@ -45,7 +45,7 @@ divider_keeps u = no_lags_within
 
 -- The levels between two are at most all levels.
 few_between : (low high : ℕ) → between low high three.levels ≤ 3
-few_between low high = count_by-le-length (λ x. ltb low x && leb x high) three.levels
+few_between low high = count_by-le-length (λ x. nat_lt low x && nat_le x high) three.levels
 
 pub ramp_keeps : Keeps on_ramp
 ramp_keeps u = record { back = few_between u.asked 50; slowed = lit≤ tt; woken = few_between 0 u.asked }
