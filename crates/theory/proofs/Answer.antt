@@ -1,5 +1,5 @@
 -- The answer of a row: its smallest point at which the demand fits, and the demand there.
-use Rattle.std.proofs.Common.{◌≡◌, ℕ, ◌<◌, ◌≤◌, List, [], Some, None, Option, sym, refl, ap, ◌∙◌, subst, arith, MatchOption}
+use Rattle.std.proofs.Common.{◌≡◌, ℕ, ◌<◌, ◌≤◌, List, Some, None, Option, sym, refl, ap, ◌∙◌, subst, arith, MatchOption}
 use Rattle.std.proofs.lemmas.Bool.{leb-true, leb-false, le-leb}
 use Rattle.std.specs.Option.{option_map}
 use Rattle.theory.specs.Lists.{All, In}
@@ -63,7 +63,4 @@ no_answer f hi i none = by_answer f hi i (λ o. o ≡ None) (λ p s. absurd (ome
 -- An answer is a demand of at least a tick, which fits into its point, up to the deadline.
 pub answer_bounds : (f : ℕ) (hi : List Task) (i : Task) (p d : ℕ) → 1 ≤ f → All Valid (down_to hi i) → answer f hi i ≡ Some (p, d) →
     (1 ≤ d) × (d ≤ p) × (p ≤ i.deadline) × (d ≡ demand f (down_to hi i) p)
-answer_bounds f hi i p d hf all e =
-    let (s, is) = answer_some f hi i p d e in
-    let (low, high) = point_bounds hi i p all s.point in
-    (omega (arith, demand_pos f hi i p hf (valid_above hi i [] all).1 low), omega (arith, s.fit), high, is)
+answer_bounds f hi i p d hf all e = grind (arith, answer_some, point_bounds, demand_pos, valid_above)

@@ -73,9 +73,7 @@ not_both f table safe (k, late) =
 
 -- Where the level passes, every row fits in time.
 pub every_row_fits : (f : ℕ) (table : List Task) → 1 ≤ f → All Valid table → level_passes f table ≡ true → EveryRowFits f table
-every_row_fits f table hf v h hi i lo e =
-    let w = valid_above hi i lo (subst (All Valid) e v) in
-    (points_suffice f hi i hf w.0 w.1).0 (each f [] hi i lo (subst (λ (l : List Task). level_passes f l ≡ true) e h))
+every_row_fits f table hf v h hi i lo e = grind (arith, valid_above, points_suffice, each)
 
 -- Where the level is refused, the plain run is late.
 pub refused_late : (f : ℕ) (table : List Task) → 1 ≤ f → All Valid table → level_passes f table ≡ false → PlainRunLate f table

@@ -4,7 +4,7 @@ use Rattle.std.proofs.lemmas.Bool.{cases_lt}
 use Rattle.theory.specs.Lists.{All, Any}
 use Rattle.theory.specs.Tasks.{Valid, cdiv, cost}
 use Rattle.theory.specs.Ticks.{Row, released, given, serve, tick, Late, tasks}
-use Rattle.theory.proofs.Cdiv.{cdiv_is, cdiv_above, cdiv_tight, cdiv_none, cdiv_less}
+use Rattle.theory.proofs.Cdiv.{cdiv_none, cdiv_less}
 use Rattle.theory.proofs.Places.{sum_to, At, all_map, by_release, by_serve, all_serve, asks}
 use Rattle.theory.proofs.Ticks.{left, still}
 
@@ -41,30 +41,15 @@ pub record Steady (t : ℕ) (r : Row) : Type 0 where
 
 -- After a multiple of the period, the next tick has one release more.
 one_more : (t T : ℕ) → 1 ≤ T → cdiv t T * T ≡ t → cdiv (suc t) T ≡ cdiv t T + 1
-one_more t T h e = cdiv_is (suc t) T (cdiv t T + 1) h (omega arith) (omega arith)
+one_more t T h e = grind arith
 
 -- Between two multiples of the period, the next tick has no release more.
 no_more : (t T : ℕ) → 1 ≤ T → (cdiv t T * T ≡ t → ⊥) → cdiv (suc t) T ≡ cdiv t T
-no_more t T h e =
-    let up = cdiv_above t T h in
-    let down = cdiv_tight t T h in
-    cdiv_is (suc t) T (cdiv t T) h (omega arith) (omega arith)
+no_more t T h e = grind arith
 
 -- The releases keep a row steady.
 steady_released : (t : ℕ) (r : Row) → Steady t r → Steady (suc t) (released t r)
-steady_released t r g =
-    by_release t r (Steady (suc t))
-    (λ q.
-    let v : Valid r.task = g.valid in
-    let m = one_more t T (omega arith) (omega (arith, g.next_is)) in
-    record { valid = v; next_is = omega (arith, g.next_is, ap (λ (x : ℕ). x * T) m); due_by = λ _. omega arith })
-    (λ q.
-    let v : Valid r.task = g.valid in
-    let m = no_more t T (omega arith) (λ e. q (g.next_is ∙ e)) in
-    record { valid = v; next_is = omega (arith, g.next_is, ap (λ (x : ℕ). x * T) m); due_by = g.due_by })
-  where
-    T : ℕ
-    T = r.task.period
+steady_released t r g = grind arith
 
 -- A tick keeps the rows steady.
 pub steady_tick : (f t : ℕ) (s : List Row) → All (Steady t) s → All (Steady (suc t)) (tick f false t s)

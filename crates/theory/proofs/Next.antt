@@ -60,13 +60,8 @@ next_last hi i t = next_low (down_to hi i) i.deadline t
 
 -- The next point of a row is one of its points.
 pub next_is_point : (hi : List Task) (i : Task) (t : ℕ) → All Valid (down_to hi i) → 1 ≤ t → In (next_point (down_to hi i) i.deadline t) (points hi i)
-next_is_point hi i t all ht =
-    points_have i (down_to hi i) (next_point (down_to hi i) i.deadline t)
-    (⊎_elim (λ e. inl e) (λ a. inr (next_last hi i t, a))
-    (next_is i (down_to hi i) i.deadline t all ht (valid_above hi i [] all).1.in_period))
+next_is_point hi i t all ht = grind (arith, points_have, next_last, next_is, valid_above)
 
 -- No point of a row stands between t and the next point.
 pub next_first : (hi : List Task) (i : Task) (t q : ℕ) → All Valid (down_to hi i) → In q (points hi i) → t ≤ q → next_point (down_to hi i) i.deadline t ≤ q
-next_first hi i t q all m h =
-    ⊎_elim (λ e. omega (arith, next_last hi i t)) (λ a. next_before i (down_to hi i) i.deadline t q all a.1 h)
-    (points_are i (down_to hi i) q m)
+next_first hi i t q all m h = grind (arith, next_last, next_before, points_are)

@@ -1,6 +1,5 @@
 -- No job is late, and none is overwritten: every row keeps a target through the run.
-use Rattle.std.proofs.Common.{◌≡◌, ℕ, zero, suc, ◌+◌, ◌≤◌, Bool, List, [], ◌∷◌, map, length, sym, refl, ap, ◌∙◌, subst, ⊎_elim, arith}
-use Rattle.std.proofs.lemmas.Bool.{cases_lt}
+use Rattle.std.proofs.Common.{◌≡◌, ℕ, zero, suc, ◌+◌, ◌≤◌, Bool, List, [], ◌∷◌, map, length, sym, refl, ap, ◌∙◌, subst, arith}
 use Rattle.theory.specs.Lists.{All}
 use Rattle.theory.specs.Tasks.{Valid, cdiv}
 use Rattle.theory.specs.Ticks.{Row, released, tick, run, Late, Starts, tasks}
@@ -54,7 +53,4 @@ due_run f early (suc k) n s a =
 
 -- Nor does a release ever find the last job of its row unfinished.
 pub never_overwritten : NeverOverwritten
-never_overwritten f n rows hf v starts fits early k =
-    all_both (λ r. ¬ (Late (n + k) r)) Due (λ r. r.next ≡ n + k → r.rem ≡ 0)
-    (λ r ok d e. ⊎_elim (λ h. absurd (ok (h, omega (arith, d.1 h)))) (λ h. omega arith) (cases_lt 0 r.rem))
-    (run f early k n rows) (never_late f (tasks rows) hf v fits n rows refl starts early k) (due_run f early k n rows (start_due n rows v starts))
+never_overwritten f n rows hf v starts fits early k = grind (arith, all_both, never_late, due_run, start_due)

@@ -1,6 +1,5 @@
 -- Sums over the first rows, and what holds of the row at a place.
-use Rattle.std.proofs.Common.{◌≡◌, ℕ, zero, suc, ◌+◌, ◌*◌, ◌<◌, ◌≤◌, Bool, List, [], ◌∷◌, ◌++◌, map, length, sym, refl, ap, ◌∙◌, append_assoc, arith, ◌==◌}
-use Rattle.std.proofs.lemmas.Bool.{cond_both, eqb-true, eqb-false}
+use Rattle.std.proofs.Common.{◌≡◌, ℕ, zero, suc, ◌+◌, ◌*◌, ◌<◌, ◌≤◌, Bool, List, [], ◌∷◌, ◌++◌, map, length, sym, refl, ap, ◌∙◌, append_assoc, arith}
 use Rattle.theory.specs.Lists.{All}
 use Rattle.theory.specs.Tasks.{Task, cdiv, cost, demand}
 use Rattle.theory.specs.Ticks.{Row, fresh, released, given, serve, tick, tasks}
@@ -56,15 +55,12 @@ all_map f P Q h (x ∷ xs) a = (h x a.0, all_map f P Q h xs a.1)
 -- What holds of a row after its release, where it has one, and of the row itself, where it has none, holds of the row after
 -- the releases.
 pub by_release : (n : ℕ) (r : Row) (P : Row → Type 0) → (r.next ≡ n → P (fresh n r)) → ((r.next ≡ n → ⊥) → P r) → P (released n r)
-by_release n r P yes' no' =
-    cond_both (r.next == n) (fresh n r) r P (λ e. yes' (eqb-true r.next n e)) (λ e. no' (eqb-false r.next n e))
+by_release n r P yes' no' = grind arith
 
 -- What holds of the rows where the first has no job, and where it is served, holds of the rows after the service.
 pub by_serve : (f : ℕ) (b : Bool) (r : Row) (rs : List Row) (P : List Row → Type 0) →
     (r.rem ≡ 0 → P (r ∷ serve f b rs)) → (0 < r.rem → P (given f b r ∷ rs)) → P (serve f b (r ∷ rs))
-by_serve f b r rs P none some =
-    cond_both (r.rem == 0) (r ∷ serve f b rs) (given f b r ∷ rs) P (λ e. none (eqb-true r.rem 0 e))
-    (λ e. let h = eqb-false r.rem 0 e in some (omega arith))
+by_serve f b r rs P none some = grind arith
 
 -- The service keeps what each row keeps when it is given units.
 pub all_serve : (f : ℕ) (b : Bool) (P : Row → Type 0) → ((r : Row) → P r → P (given f b r)) → (rs : List Row) → All P rs → All P (serve f b rs)

@@ -75,8 +75,4 @@ multiple_pos i t (r ∷ rs) v (inr a) = multiple_pos i t rs v.1 a
 
 -- The points of a row stand from the first tick to its deadline.
 pub point_bounds : (hi : List Task) (i : Task) (t : ℕ) → All Valid (down_to hi i) → In t (points hi i) → (1 ≤ t) × (t ≤ i.deadline)
-point_bounds hi i t all m = by (points_are i (down_to hi i) t m)
-  where
-    by : Point i (down_to hi i) t → (1 ≤ t) × (t ≤ i.deadline)
-    by (inl e) = let w : Valid i = (valid_above hi i [] all).1 in (omega arith, omega arith)
-    by (inr (low, a)) = (multiple_pos i t (down_to hi i) all a, low)
+point_bounds hi i t all m = grind (arith, points_are, valid_above, multiple_pos)

@@ -34,7 +34,7 @@ found f hi i t all ht none fit =
 
 -- Where the search is past the deadline, there is no answer.
 pub exhausted : (f : ℕ) (hi : List Task) (i : Task) (t : ℕ) → All Valid (down_to hi i) → NoneBelow f hi i t → i.deadline < t → answer f hi i ≡ None
-exhausted f hi i t all none past = no_answer f hi i (λ q m. none q m (omega (arith, point_bounds hi i q all m)))
+exhausted f hi i t all none past = grind (arith, no_answer, point_bounds)
 
 -- The search of a row may begin where the row above it ended, and the cost of its own job after that.
 pub from_above : (f : ℕ) (hi : List Task) (j i : Task) (p d : ℕ) → 1 ≤ f → All Valid (down_to (down_to hi j) i) → answer f hi j ≡ Some (p, d) →

@@ -14,8 +14,7 @@ use Rattle.theory.proofs.Points.{point_bounds}
 -- Where the demand fits at t, it fits at the next point.
 pub fits_next : (f : ℕ) (hi : List Task) (i : Task) (t : ℕ) → All Valid (down_to hi i) → t ≤ i.deadline → demand f (down_to hi i) t ≤ t →
     demand f (down_to hi i) (next_point (down_to hi i) i.deadline t) ≤ next_point (down_to hi i) i.deadline t
-fits_next f hi i t all low h =
-    omega (arith, next_asks_no_more f (down_to hi i) i.deadline t (next_point (down_to hi i) i.deadline t) all (omega arith), next_from hi i t all low)
+fits_next f hi i t all low h = grind (arith, next_asks_no_more, next_from)
 
 -- A row passes at one of its points just when its demand fits at any time up to its deadline.
 pub points_suffice : PointsSuffice

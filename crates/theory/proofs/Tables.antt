@@ -1,5 +1,5 @@
 -- The answers of a table, place by place.
-use Rattle.std.proofs.Common.{◌≡◌, ℕ, zero, suc, ◌+◌, ◌<◌, cond, List, [], ◌∷◌, ◌++◌, length, get_or, take, is_some, Some, None, Option, sym, refl, ap, ◌∙◌, ap₂, append_assoc, append-nil, arith}
+use Rattle.std.proofs.Common.{◌≡◌, ℕ, zero, suc, ◌+◌, ◌<◌, cond, List, [], ◌∷◌, ◌++◌, length, get_or, take, is_some, Some, None, Option, refl, ap, ◌∙◌, ap₂, append_assoc, append-nil, arith}
 use Rattle.theory.specs.Tasks.{Task, no_task}
 use Rattle.theory.specs.Test.{down_to, answer, joined, answers, passing, first_failing}
 
@@ -13,7 +13,7 @@ Under f hi lo n g = (k : ℕ) → k < n → answer f (hi ++ take k lo) (get_or l
 
 -- A row has the same answer under hi as under hi and no rows more.
 answer_first : (f : ℕ) (hi : List Task) (i : Task) → answer f hi i ≡ answer f (hi ++ []) i
-answer_first f hi i = ap (λ (l : List Task). answer f l i) (sym (append-nil hi))
+answer_first f hi i = grind (arith, append-nil)
 
 -- A row has the same answer under hi with i, and then the rows of mid, as under hi, and then i and the rows of mid.
 answer_next : (f : ℕ) (hi : List Task) (i : Task) (mid : List Task) (r : Task) → answer f (down_to hi i ++ mid) r ≡ answer f (hi ++ (i ∷ mid)) r
