@@ -1,5 +1,5 @@
 -- The test is exact: where it passes no job is ever late, and where it refuses the plain run has a late job.
-use Rattle.std.proofs.Common.{◌≡◌, ℕ, ◌≤◌, true, false, ◌&&◌, List, [], ◌∷◌, ◌++◌, map, is_some, Some, None, Option, sym, refl, ap, ◌∙◌, subst, inl, inr, ⊎_elim, append_assoc, append-nil, zero-add, arith}
+use Rattle.std.proofs.Common.{◌≡◌, ℕ, ◌≤◌, true, false, ◌&&◌, List, [], ◌∷◌, ◌++◌, map, is_some, Some, None, Option, sym, refl, ap, ◌∙◌, subst, inl, inr, ⊎_elim, append_assoc, append-nil, zero-add, arith, rules}
 use Rattle.std.proofs.lemmas.Bool.{cases_Bool, both_ways, and_parts, and_cases, true≢false}
 use Rattle.theory.specs.Lists.{All, Any}
 use Rattle.theory.specs.Tasks.{Task, Valid}
@@ -19,12 +19,10 @@ joined_is None rest = refl
 
 -- Where the rows under `pre` have answers, each of them passes.
 pub each : (f : ℕ) (pre hi : List Task) (i : Task) (lo : List Task) → is_some (answers f pre (hi ++ (i ∷ lo))) ≡ true → passes f (pre ++ hi) i ≡ true
-each f pre [] i lo h =
-    let both = and_parts (passes f pre i) (is_some (answers f (down_to pre i) lo)) (sym (joined_is (answer f pre i) (answers f (down_to pre i) lo)) ∙ h) in
-    subst (λ (l : List Task). passes f l i ≡ true) (sym (append-nil pre)) both.0
+each f pre [] i lo h = search rules
 each f pre (x ∷ hi) i lo h =
     let rest = answers f (down_to pre x) (hi ++ (i ∷ lo)) in
-    let both = and_parts (passes f pre x) (is_some rest) (sym (joined_is (answer f pre x) rest) ∙ h) in
+    let both = and_parts (passes f pre x) (is_some rest) (grind arith) in
     subst (λ (l : List Task). passes f l i ≡ true) (append_assoc pre (x ∷ []) hi) (each f (down_to pre x) hi i lo both.1)
 
 -- A row of the table that does not pass under those above it.
@@ -40,16 +38,16 @@ pub refused_row : (f : ℕ) (pre table : List Task) → is_some (answers f pre t
 refused_row f pre [] h = absurd (true≢false h)
 refused_row f pre (x ∷ table) h =
     ⊎_elim
-    (λ e. record { above = []; row = x; under = table; split = refl; fails = subst (λ (l : List Task). passes f l x ≡ false) (sym (append-nil pre)) e })
+    (λ e. record { above = []; row = x; under = table; split = refl; fails = search rules})
     (λ e. later (refused_row f (down_to pre x) table e))
-    (and_cases (passes f pre x) (is_some (answers f (down_to pre x) table)) (sym (joined_is (answer f pre x) (answers f (down_to pre x) table)) ∙ h))
+    (and_cases (passes f pre x) (is_some (answers f (down_to pre x) table)) (grind arith))
   where
     later : Refused f (down_to pre x) table → Refused f pre (x ∷ table)
     later r = record {
       above = x ∷ r.above;
       row = r.row;
       under = r.under;
-      split = ap (λ (l : List Task). x ∷ l) r.split;
+      split = grind arith;
       fails = subst (λ (l : List Task). passes f l r.row ≡ false) (append_assoc pre (x ∷ []) r.above) r.fails;
     }
 
@@ -69,7 +67,7 @@ not_both : (f : ℕ) (table : List Task) → Schedulable f table → PlainRunLat
 not_both f table safe (k, late) =
     none_late k (plain f k table) late
     (subst (λ (x : ℕ). All (λ r. ¬ (Late x r)) (plain f k table)) (zero-add k)
-    (safe 0 (map at_rest table) (tasks_at_rest table) (starts_at_rest table) (λ _. false) k))
+    (grind (arith, tasks_at_rest, starts_at_rest)))
 
 -- Where the level passes, every row fits in time.
 pub every_row_fits : (f : ℕ) (table : List Task) → 1 ≤ f → All Valid table → level_passes f table ≡ true → EveryRowFits f table
@@ -82,8 +80,8 @@ refused_late f table hf v h =
     let all : All Valid (r.above ++ (r.row ∷ r.under)) = subst (All Valid) r.split v in
     let w = valid_above r.above r.row r.under all in
     let (k, low, late) = must_be_late f r.above r.row r.under hf all
-    (λ fit. both_ways (passes f r.above r.row) r.fails ((points_suffice f r.above r.row hf w.0 w.1).1 fit)) in
-    (k, subst (λ (l : List Task). Any (Late k) (plain f k l)) (sym r.split) late)
+    (λ fit. grind (arith, both_ways, points_suffice)) in
+    (grind arith)
 
 -- The test passes just the tables of which no job is ever late, and refuses just those of which the plain run is late.
 pub test_is_exact : TestIsExact
@@ -93,7 +91,7 @@ test_is_exact f table hf v = record { passed = (passed, schedulable); refused = 
     passed h = never_late f table hf v (every_row_fits f table hf v h)
 
     schedulable : Schedulable f table → level_passes f table ≡ true
-    schedulable safe = ⊎_elim (λ h. h) (λ h. absurd (not_both f table safe (refused_late f table hf v h))) (cases_Bool (level_passes f table))
+    schedulable safe = grind (arith, not_both, refused_late, cases_Bool)
 
     late : PlainRunLate f table → level_passes f table ≡ false
     late l = ⊎_elim (λ h. absurd (not_both f table (passed h) l)) (λ h. h) (cases_Bool (level_passes f table))

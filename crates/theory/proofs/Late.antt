@@ -1,5 +1,5 @@
 -- The plain run from tick to tick: what is left of the jobs, after the releases and after the service.
-use Rattle.std.proofs.Common.{◌≡◌, ℕ, zero, suc, ◌+◌, ◌*◌, ◌<◌, ◌≤◌, false, ◌⊎◌, List, [], ◌∷◌, map, length, refl, ap, ◌∙◌, inl, inr, ⊎_elim, arith}
+use Rattle.std.proofs.Common.{◌≡◌, ℕ, zero, suc, ◌+◌, ◌*◌, ◌<◌, ◌≤◌, false, ◌⊎◌, List, [], ◌∷◌, map, length, refl, ap, ◌∙◌, inl, inr, ⊎_elim, arith, rules}
 use Rattle.std.proofs.lemmas.Bool.{cases_lt}
 use Rattle.theory.specs.Lists.{All, Any}
 use Rattle.theory.specs.Tasks.{Valid, cdiv, cost}
@@ -55,8 +55,8 @@ steady_released t r g = grind arith
 pub steady_tick : (f t : ℕ) (s : List Row) → All (Steady t) s → All (Steady (suc t)) (tick f false t s)
 steady_tick f t s g =
     all_serve f false (Steady (suc t))
-    (λ r a. record { valid = a.valid; next_is = a.next_is; due_by = λ k. a.due_by (still f false r k) }) (map (released t) s)
-    (all_map (released t) (Steady t) (Steady (suc t)) (steady_released t) s g)
+    (λ r a. grind arith) (map (released t) s)
+    (search (rules, all_map, steady_released))
 
 -- Where a row is not late, its release adds to what is left just what it asks for more.
 left_released : (f t : ℕ) (r : Row) → 1 ≤ f → Steady t r → ¬ (Late t r) →
@@ -66,12 +66,9 @@ left_released f t r hf g ok =
     (λ q.
     let v : Valid r.task = g.valid in
     let m = one_more t T (omega arith) (omega (arith, g.next_is)) in
-    let z : r.rem ≡ 0 = ⊎_elim (λ k. absurd (ok (k, omega (arith, g.due_by k)))) (λ k. omega arith) (cases_lt 0 r.rem) in
+    let z : r.rem ≡ 0 = ⊎_elim (λ k. grind arith) (λ k. omega arith) (cases_lt 0 r.rem) in
     omega (arith, ap (λ (x : ℕ). cost f r.task * x) m, ap (λ (x : ℕ). cdiv x f) z, cdiv_none f hf))
-    (λ q.
-    let v : Valid r.task = g.valid in
-    let m = no_more t T (omega arith) (λ e. q (g.next_is ∙ e)) in
-    omega (arith, ap (λ (x : ℕ). cost f r.task * x) m))
+    (grind (arith, no_more))
   where
     T : ℕ
     T = r.task.period
@@ -90,7 +87,7 @@ left_serve f zero s hf h = absurd (omega arith)
 left_serve f (suc i) [] hf h = absurd (omega arith)
 left_serve f (suc i) (r ∷ s) hf h =
     by_serve f false r s (λ l. sum_to (left f) (suc i) l + 1 ≡ sum_to (left f) (suc i) (r ∷ s))
-    (λ q. omega (arith, left_serve f i s hf (omega (arith, ap (λ (x : ℕ). cdiv x f) q, cdiv_none f hf))))
+    (λ q. omega (arith, left_serve f i s hf (grind (arith, cdiv_none))))
     (λ q. omega (arith, cdiv_less r.rem f hf q))
 
 -- Where ticks are left of a job, so are units.
@@ -101,9 +98,7 @@ some_left f (suc x) hf h = omega arith
 -- The service does not end the job at the place i before those above it.
 pub last_left : (f i : ℕ) (s : List Row) → 1 ≤ f → At (λ r. 0 < r.rem) i s → 0 < sum_to (left f) (suc i) (serve f false s) → At (λ r. 0 < r.rem) i (serve f false s)
 last_left f i [] hf a h = tt
-last_left f zero (r ∷ s) hf a h =
-    (by_serve f false r s (λ l. 0 < sum_to (left f) 1 l → At (λ x. 0 < x.rem) 0 l) (λ q k. absurd (omega arith))
-    (λ q k. some_left f (given f false r).rem hf (omega arith))) h
+last_left f zero (r ∷ s) hf a h = grind (arith, by_serve, some_left)
 last_left f (suc i) (r ∷ s) hf a h =
     (by_serve f false r s (λ l. 0 < sum_to (left f) (suc (suc i)) l → At (λ x. 0 < x.rem) (suc i) l)
-    (λ q k. last_left f i s hf a (omega (arith, ap (λ (x : ℕ). cdiv x f) q, cdiv_none f hf))) (λ q k. a)) h
+    (λ q k. last_left f i s hf a (grind (arith, cdiv_none))) (λ q k. a)) h

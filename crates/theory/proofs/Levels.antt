@@ -20,7 +20,7 @@ NoneBefore f fs table =
 -- The level that `lowest` gives has the answers found, and those before it have none.
 passes_first : (fs : List ℕ) (table : List Task) (f : ℕ) (found : List (ℕ × ℕ)) → lowest fs table ≡ Some (f, found) →
     (answers f [] table ≡ Some found) × NoneBefore f fs table
-passes_first [] table f found e = let z : ◌≡◌ {A = ℕ} 0 1 = cc in absurd (omega arith)
+passes_first [] table f found e = grind arith
 passes_first (g ∷ fs) table f found e = by (answers g [] table) refl e (passes_first fs table f found)
   where
     by : (o : Option (List (ℕ × ℕ))) → answers g [] table ≡ o → at_level g o (lowest fs table) ≡ Some (f, found) →
@@ -39,7 +39,7 @@ passes_first (g ∷ fs) table f found e = by (answers g [] table) refl e (passes
             g ∷ before,
             after,
             ap (λ (xs : List ℕ). g ∷ xs) split,
-            λ x m. ⊎_elim (λ i. ap (λ (y : ℕ). answers y [] table) (sym i) ∙ is) (λ i. none x i) m,
+            λ x m. ⊎_elim (λ i. grind arith) (λ i. none x i) m,
           ),
         )
 
@@ -49,7 +49,7 @@ pub lowest_finds : (fs : List ℕ) (table : List Task) (f : ℕ) (found : List (
 lowest_finds fs table f found e =
     let (passes, first) = passes_first fs table f found e in
     let (before, after, split, none) = first in
-    (subst (In f) (sym split) (in_right f before (f ∷ after) (inl refl)), passes, first)
+    (grind (arith, in_right))
 
 -- In a rising list, what stands behind a level is above it.
 rises : (low : ℕ) (fs : List ℕ) (g : ℕ) → rising low fs ≡ true → In g fs → low < g
@@ -61,7 +61,7 @@ rises low (f ∷ fs) g a m =
 
 -- The end of a rising list rises from the level before it.
 rises_after : (low : ℕ) (before : List ℕ) (f : ℕ) (after : List ℕ) → rising low (before ++ (f ∷ after)) ≡ true → rising f after ≡ true
-rises_after low [] f after a = (and_parts (nat_lt low f) (rising f after) a).1
+rises_after low [] f after a = grind arith
 rises_after low (x ∷ before) f after a = rises_after x before f after (and_parts (nat_lt low x) (rising x (before ++ (f ∷ after))) a).1
 
 -- Where the levels rise, no listed level below the one that `lowest` gives has answers.
@@ -69,8 +69,8 @@ pub lowest_first : (low : ℕ) (fs : List ℕ) (table : List Task) (f : ℕ) (fo
     lowest fs table ≡ Some (f, found) → (g : ℕ) → In g fs → g < f → answers g [] table ≡ None
 lowest_first low fs table f found a e g m lt =
     let (before, after, split, none) = (passes_first fs table f found e).1 in
-    let up : rising f after ≡ true = rises_after low before f after (subst (λ (xs : List ℕ). rising low xs ≡ true) split a) in
-    ⊎_elim (λ i. none g i) (λ i. absurd (⊎_elim (λ is. omega arith) (λ k. omega (arith, rises f after g up k)) i))
+    let up : rising f after ≡ true = rises_after low before f after (grind arith) in
+    ⊎_elim (λ i. none g i) (λ i. grind (arith, rises))
     (in_either g before (f ∷ after) (subst (In g) split m))
 
 -- Where `lowest` gives no level, no listed level has answers.
@@ -80,8 +80,8 @@ lowest_none (f ∷ fs) table e g m = by (answers f [] table) refl e (lowest_none
   where
     by : (o : Option (List (ℕ × ℕ))) → answers f [] table ≡ o → at_level f o (lowest fs table) ≡ None →
         (lowest fs table ≡ None → (x : ℕ) → In x fs → answers x [] table ≡ None) → answers g [] table ≡ None
-    by (Some xs) is h rest = let z : ◌≡◌ {A = ℕ} 0 1 = cc in absurd (omega arith)
-    by None is h rest = ⊎_elim (λ i. ap (λ (x : ℕ). answers x [] table) (sym i) ∙ is) (λ i. rest h g i) m
+    by (Some xs) is h rest = grind arith
+    by None is h rest = grind arith
 
 -- Where no listed level has answers, `lowest` gives none.
 pub none_lowest : (fs : List ℕ) (table : List Task) → ((g : ℕ) → In g fs → answers g [] table ≡ None) → lowest fs table ≡ None
@@ -92,4 +92,4 @@ none_lowest (f ∷ fs) table h =
 -- One level more of the levels from place k on.
 pub lowest_more : (fs : List ℕ) (k f : ℕ) (table : List Task) → k < length fs → f ≡ get_or fs k f →
     lowest (drop k fs) table ≡ at_level f (answers f [] table) (lowest (drop (k + 1) fs) table)
-lowest_more fs k f table h e = ap (λ (l : List ℕ). lowest l table) (drop_more fs k f h ∙ ap (λ (x : ℕ). x ∷ drop (k + 1) fs) (sym e))
+lowest_more fs k f table h e = grind (arith, drop_more)

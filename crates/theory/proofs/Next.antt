@@ -18,14 +18,12 @@ next_low (r ∷ rs) last t = omega (arith, next_low rs (min last (period_end r t
 next_high : (rows : List Task) (last t : ℕ) → All Valid rows → t ≤ last → t ≤ next_point rows last t
 next_high [] last t v h = h
 next_high (r ∷ rs) last t v h =
-    next_high rs (min last (period_end r t)) t v.1 (omega (arith, cdiv_above t r.period (omega arith)))
+    next_high rs (min last (period_end r t)) t v.1 (grind arith)
 
 -- No multiple of a row's period stands between t and the next point.
 next_before : (i : Task) (rows : List Task) (last t q : ℕ) → All Valid rows → Any (Multiple i q) rows → t ≤ q → next_point rows last t ≤ q
 next_before i [] last t q v a h = absurd a
-next_before i (r ∷ rs) last t q v (inl (m, some, few, e)) h =
-    let c : cdiv t r.period ≤ m = cdiv_least t r.period m (omega arith) (omega arith) in
-    omega (arith, mul-le-mul_right r.period c, next_low rs (min last (period_end r t)) t)
+next_before i (r ∷ rs) last t q v (inl (m, some, few, e)) h = grind (arith, cdiv_least, mul-le-mul_right, next_low)
 next_before i (r ∷ rs) last t q v (inr a) h = next_before i rs (min last (period_end r t)) t q v.1 a h
 
 -- The next point is the last one, or a multiple of a row's period.
@@ -38,16 +36,14 @@ next_is i (r ∷ rs) last t v ht h =
   where
     here : next_point rs (min last (period_end r t)) t ≡ min last (period_end r t) → period_end r t < last →
         Multiple i (next_point rs (min last (period_end r t)) t) r
-    here e k =
-        let pos : 1 ≤ r.period = omega arith in
-        (cdiv t r.period, cdiv_pos t r.period pos ht, (le-div_iff_mul-le pos).1 (omega arith), omega arith)
+    here e k = grind arith
 
 -- Up to the next point after t, the rows ask for no more than at t.
 pub next_asks_no_more : (f : ℕ) (rows : List Task) (last t u : ℕ) → All Valid rows → u ≤ next_point rows last t → demand f rows u ≤ demand f rows t
 next_asks_no_more f [] last t u v h = omega arith
 next_asks_no_more f (r ∷ rs) last t u v h =
     let c : cdiv u r.period ≤ cdiv t r.period = cdiv_least u r.period (cdiv t r.period) (omega arith)
-    (omega (arith, next_low rs (min last (period_end r t)) t)) in
+    (grind (arith, next_low)) in
     omega (arith, mul-le-mul_left (cost f r) c, next_asks_no_more f rs (min last (period_end r t)) t u v.1 h)
 
 -- The next point of a row is not before the time that it is looked for from.

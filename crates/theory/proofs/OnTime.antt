@@ -17,7 +17,7 @@ on_time_run f early i zero n m s hf e g pass inv =
 on_time_run f early i (suc k) n m s hf e g pass inv =
     let s' = tick f (early n) n s in
     on_time_run f early i k (suc n) m s' hf (omega arith) (good_tick f (early n) n s g)
-    (subst (PassAt f i) (sym (tasks_tick f (early n) n s)) pass) (inv_tick f (early n) n i s hf g pass inv)
+    (grind (arith, tasks_tick)) (inv_tick f (early n) n i s hf g pass inv)
 
 -- A run leaves the tasks as they are.
 tasks_run : (f : ℕ) (early : ℕ → Bool) (k n : ℕ) (s : List Row) → tasks (run f early k n s) ≡ tasks s
@@ -41,15 +41,15 @@ never_late f table hf valid fits n rows e starts early k =
     let same : length (tasks (run f early k n rows)) ≡ length (tasks rows) = ap length (tasks_run f early k n rows) in
     let p : PassAt f i (tasks rows) = pass_at f (tasks rows) every i (omega (arith, length_tasks (run f early k n rows))) in
     let g = start_good n rows v starts in
-    on_time_run f early i k n (n + k) rows hf refl g p (anew f n i rows hf g p (start_idle f n (suc i) rows hf starts)))
+    on_time_run f early i k n (n + k) rows hf refl g p (grind (arith, anew, start_idle)))
 
 -- Through a run, unfinished jobs are due by the next release.
 due_run : (f : ℕ) (early : ℕ → Bool) (k n : ℕ) (s : List Row) → All Due s → All Due (run f early k n s)
 due_run f early zero n s a = a
 due_run f early (suc k) n s a =
     due_run f early k (suc n) (tick f (early n) n s)
-    (all_serve f (early n) Due (λ r d. (d.0, λ h. d.1 (still f (early n) r h))) (map (released n) s)
-    (all_map (released n) Due Due (λ r d. by_release n r Due (λ _. (d.0, λ _. omega arith)) (λ _. d)) s a))
+    (all_serve f (early n) Due (λ r d. grind arith) (map (released n) s)
+    (all_map (released n) Due Due (λ r d. grind arith) s a))
 
 -- Nor does a release ever find the last job of its row unfinished.
 pub never_overwritten : NeverOverwritten

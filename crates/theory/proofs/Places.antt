@@ -71,7 +71,7 @@ all_serve f b P h (r ∷ rs) a =
 -- At the place i, the service keeps what a row keeps when it is given units.
 pub at_serve : (f : ℕ) (b : Bool) (P : Row → Type 0) → ((r : Row) → P r → P (given f b r)) → (i : ℕ) (rs : List Row) → At P i rs → At P i (serve f b rs)
 at_serve f b P h i [] a = tt
-at_serve f b P h zero (r ∷ rs) a = by_serve f b r rs (At P 0) (λ _. a) (λ _. h r a)
+at_serve f b P h zero (r ∷ rs) a = grind arith
 at_serve f b P h (suc i) (r ∷ rs) a = by_serve f b r rs (At P (suc i)) (λ _. at_serve f b P h i rs a) (λ _. a)
 
 -- The service leaves the tasks as they are.
@@ -105,10 +105,10 @@ pass_from : (f : ℕ) (pre ts : List Task) → EveryRowFits f (pre ++ ts) → (i
 pass_from f pre [] pass i h = absurd (omega arith)
 pass_from f pre (t ∷ ts) pass zero h =
     let (p, some, low, fits) = pass pre t ts refl in
-    (p, some, low, omega (arith, demand_append f pre (t ∷ []) p))
+    (grind (arith, demand_append))
 pass_from f pre (t ∷ ts) pass (suc i) h =
     let (p, some, low, fits) = pass_from f (pre ++ (t ∷ [])) ts (λ hi j lo e. pass hi j lo (sym (append_assoc pre (t ∷ []) ts) ∙ e)) i (omega arith) in
-    (p, some, low, omega (arith, demand_append f pre (t ∷ []) p))
+    (grind (arith, demand_append))
 
 -- Where every row of a table fits, so does the one at each place.
 pub pass_at : (f : ℕ) (ts : List Task) → EveryRowFits f ts → (i : ℕ) → i < length ts → PassAt f i ts

@@ -1,5 +1,5 @@
 -- The listed points of a row: its deadline, and the multiples of the rows' periods up to it.
-use Rattle.std.proofs.Common.{◌≡◌, ℕ, zero, suc, ◌*◌, ◌/◌, ◌≤◌, ◌⊎◌, List, [], ◌∷◌, sym, subst, inl, inr, ⊎_elim, mul-le-mul_left, arith, nat_le}
+use Rattle.std.proofs.Common.{◌≡◌, ℕ, zero, suc, ◌*◌, ◌/◌, ◌≤◌, ◌⊎◌, List, [], ◌∷◌, sym, subst, inl, inr, ⊎_elim, mul-le-mul_left, arith, nat_le, rules}
 use Rattle.std.proofs.lemmas.Bool.{cases_lt, cond_both, leb-true, leb-false}
 use Rattle.theory.specs.Lists.{All, Any, In}
 use Rattle.theory.specs.Tasks.{Task, Valid}
@@ -23,23 +23,23 @@ multiples_are : (d p n t : ℕ) → In t (multiples d p n) → Listed d p n t
 multiples_are d p zero t a = absurd a
 multiples_are d p (suc n) t a =
     (cond_both (nat_le (suc n * p) d) (suc n * p ∷ multiples d p n) (multiples d p n) (λ l. In t l → Listed d p (suc n) t)
-    (λ e b. ⊎_elim (λ q. (suc n, omega arith, omega arith, sym q, omega (arith, leb-true (suc n * p) d e))) (λ c. up (multiples_are d p n t c)) b)
+    (λ e b. ⊎_elim (λ q. grind arith) (λ c. up (multiples_are d p n t c)) b)
     (λ e b. up (multiples_are d p n t b))) a
   where
     up : Listed d p n t → Listed d p (suc n) t
-    up (m, some, few, e, low) = (m, some, omega arith, e, low)
+    up (m, some, few, e, low) = grind arith
 
 -- Every such multiple stands in the list of them.
 multiples_have : (d p n t : ℕ) → Listed d p n t → In t (multiples d p n)
 multiples_have d p zero t (m, some, few, e, low) = absurd (omega arith)
 multiples_have d p (suc n) t (m, some, few, e, low) =
     cond_both (nat_le (suc n * p) d) (suc n * p ∷ multiples d p n) (multiples d p n) (In t)
-    (λ q. ⊎_elim (λ h. inr (multiples_have d p n t (m, some, omega arith, e, low))) (λ h. inl (here h)) (cases_lt m (suc n)))
-    (λ q. ⊎_elim (λ h. multiples_have d p n t (m, some, omega arith, e, low)) (λ h. absurd (omega (arith, here h, leb-false (suc n * p) d q)))
+    (λ q. ⊎_elim (λ h. inr (multiples_have d p n t (grind arith))) (λ h. inl (here h)) (cases_lt m (suc n)))
+    (λ q. ⊎_elim (λ h. multiples_have d p n t (grind arith)) (λ h. grind arith)
     (cases_lt m (suc n)))
   where
     here : suc n ≤ m → suc n * p ≡ t
-    here h = let q : suc n ≡ m = omega arith in subst (λ (x : ℕ). x * p ≡ t) (sym q) (sym e)
+    here h = grind arith
 
 -- What is listed as a point is one.
 pub points_are : (i : Task) (rows : List Task) (t : ℕ) → In t (points_of i rows) → Point i rows t
@@ -61,9 +61,7 @@ pub points_have : (i : Task) (rows : List Task) (t : ℕ) → Point i rows t →
 points_have i [] t (inl e) = inl (sym e)
 points_have i [] t (inr (low, a)) = absurd a
 points_have i (r ∷ rs) t (inl e) = in_right t (multiples i.deadline r.period (i.period / r.period)) (points_of i rs) (points_have i rs t (inl e))
-points_have i (r ∷ rs) t (inr (low, inl (m, some, few, e))) =
-    in_left t (multiples i.deadline r.period (i.period / r.period)) (points_of i rs)
-    (multiples_have i.deadline r.period (i.period / r.period) t (m, some, few, e, low))
+points_have i (r ∷ rs) t (inr (low, inl (m, some, few, e))) = search (rules, in_left, multiples_have)
 points_have i (r ∷ rs) t (inr (low, inr a)) =
     in_right t (multiples i.deadline r.period (i.period / r.period)) (points_of i rs) (points_have i rs t (inr (low, a)))
 

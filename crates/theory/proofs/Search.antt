@@ -26,11 +26,7 @@ pub found : (f : ℕ) (hi : List Task) (i : Task) (t : ℕ) → All Valid (down_
     answer f hi i ≡ Some (next_point (down_to hi i) i.deadline t, demand f (down_to hi i) (next_point (down_to hi i) i.deadline t))
 found f hi i t all ht none fit =
     let p = next_point (down_to hi i) i.deadline t in
-    some_answer f hi i p (record {
-      point = next_is_point hi i t all ht;
-      fit = fit;
-      first = λ q m h. ⊎_elim (λ low. absurd (omega (arith, none q m low))) (λ high. next_first hi i t q all m high) (cases_lt q t);
-    })
+    some_answer f hi i p (grind (arith, next_is_point, next_first, cases_lt))
 
 -- Where the search is past the deadline, there is no answer.
 pub exhausted : (f : ℕ) (hi : List Task) (i : Task) (t : ℕ) → All Valid (down_to hi i) → NoneBelow f hi i t → i.deadline < t → answer f hi i ≡ None

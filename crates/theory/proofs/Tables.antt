@@ -1,5 +1,5 @@
 -- The answers of a table, place by place.
-use Rattle.std.proofs.Common.{◌≡◌, ℕ, zero, suc, ◌+◌, ◌<◌, cond, List, [], ◌∷◌, ◌++◌, length, get_or, take, is_some, Some, None, Option, refl, ap, ◌∙◌, ap₂, append_assoc, append-nil, arith}
+use Rattle.std.proofs.Common.{◌≡◌, ℕ, zero, suc, ◌+◌, ◌<◌, cond, List, [], ◌∷◌, ◌++◌, length, get_or, take, is_some, Some, None, Option, refl, ap, ◌∙◌, ap₂, append_assoc, append-nil, arith, rules}
 use Rattle.theory.specs.Tasks.{Task, no_task}
 use Rattle.theory.specs.Test.{down_to, answer, joined, answers, passing, first_failing}
 
@@ -22,7 +22,7 @@ answer_next f hi i mid r = ap (λ (l : List Task). answer f l r) (append_assoc h
 -- The rows after the first have their answers under hi and the first.
 under_next : (f : ℕ) (hi : List Task) (i : Task) (lo : List Task) (n : ℕ) (g : ℕ → ℕ × ℕ) → Under f hi (i ∷ lo) (suc n) g →
     Under f (down_to hi i) lo n (λ k. g (suc k))
-under_next f hi i lo n g h k lt = answer_next f hi i (take k lo) (get_or lo k no_task) ∙ h (suc k) (omega arith)
+under_next f hi i lo n g h k lt = grind (arith, answer_next)
 
 -- Where each row under hi has its answer, the answers are those.
 all_under : (f : ℕ) (hi lo : List Task) (found : List (ℕ × ℕ)) → Under f hi lo (length lo) (λ k. get_or found k (0, 0)) → length found ≡ length lo →
@@ -43,15 +43,11 @@ all_answered f table found h e = all_under f [] table found h e
 fails_under : (f : ℕ) (hi lo : List Task) (n : ℕ) (g : ℕ → ℕ × ℕ) → n < length lo → Under f hi lo n g →
     answer f (hi ++ take n lo) (get_or lo n no_task) ≡ None → (answers f hi lo ≡ None) × (passing f hi lo ≡ n)
 fails_under f hi [] n g lt h e = absurd (omega arith)
-fails_under f hi (i ∷ lo) zero g lt h e =
-    let here : answer f hi i ≡ None = answer_first f hi i ∙ e in (
-      ap (λ (o : Option (ℕ × ℕ)). joined o (answers f (down_to hi i) lo)) here,
-      ap (λ (o : Option (ℕ × ℕ)). cond (is_some o) (suc (passing f (down_to hi i) lo)) 0) here,
-    )
+fails_under f hi (i ∷ lo) zero g lt h e = search rules
 fails_under f hi (i ∷ lo) (suc n) g lt h e =
     let here : answer f hi i ≡ Some (g 0) = answer_first f hi i ∙ h 0 (omega arith) in
     let rest = fails_under f (down_to hi i) lo n (λ k. g (suc k)) (omega arith) (under_next f hi i lo n g h)
-    (answer_next f hi i (take n lo) (get_or lo n no_task) ∙ e) in (
+    (grind (arith, answer_next)) in (
       ap₂ joined here rest.0,
       ap (λ (o : Option (ℕ × ℕ)). cond (is_some o) (suc (passing f (down_to hi i) lo)) 0) here ∙ ap suc rest.1,
     )
@@ -62,4 +58,4 @@ pub first_fails : (f : ℕ) (table : List Task) (n : ℕ) (found : List (ℕ × 
     answer f (take n table) (get_or table n no_task) ≡ None → (answers f [] table ≡ None) × (first_failing f table ≡ n + 1)
 first_fails f table n found lt h e =
     let both = fails_under f [] table n (λ k. get_or found k (0, 0)) lt h e in
-    (both.0, omega (arith, both.1))
+    (grind arith)

@@ -79,7 +79,7 @@ owed_serve f e b zero s hf h = absurd (omega arith)
 owed_serve f e b (suc i) [] hf h = absurd (omega arith)
 owed_serve f e b (suc i) (r ∷ s) hf h =
     (by_serve f b r s (λ l. 0 < sum_to (left f) (suc i) l → sum_to (owed f e) (suc i) l + 1 ≤ sum_to (owed f e) (suc i) (r ∷ s))
-    (λ q k. omega (arith, owed_serve f e b i s hf (omega (arith, ap (λ (x : ℕ). cdiv x f) q, cdiv_none f hf))))
+    (λ q k. omega (arith, owed_serve f e b i s hf (grind (arith, cdiv_none))))
     (λ q k. omega (arith, left_given f b r hf q))) h
 
 -- After a tick, the next releases are still ahead.
@@ -87,7 +87,7 @@ pub good_tick : (f : ℕ) (b : Bool) (n : ℕ) (s : List Row) → All (Good n) s
 good_tick f b n s g =
     all_serve f b (Good (suc n)) (λ r a. a) (map (released n) s)
     (all_map (released n) (Good n) (Good (suc n))
-    (λ r a. by_release n r (Good (suc n)) (λ q. (a.0, omega arith)) (λ q. (a.0, omega arith))) s g)
+    (λ r a. grind arith) s g)
 
 -- A job that is unfinished after it was given units was unfinished before.
 pub still : (f : ℕ) (c : Bool) (r : Row) → 0 < (given f c r).rem → 0 < r.rem
@@ -98,13 +98,13 @@ still f false r k = omega arith
 aims_tick : (f : ℕ) (b : Bool) (n e i : ℕ) (s : List Row) → At (Aims n e) i s → At (Aims (suc n) e) i (tick f b n s)
 aims_tick f b n e i s a =
     at_imp (Aims n e) (Aims (suc n) e) (λ r h. (omega arith, h.1)) i (tick f b n s)
-    (at_serve f b (Aims n e) (λ r h. (h.0, λ k. h.1 (still f b r k))) i (map (released n) s)
-    (at_map (released n) (Aims n e) (Aims n e) (λ r h. by_release n r (Aims n e) (λ q. (h.0, λ _. h.0)) (λ q. h)) i s a))
+    (at_serve f b (Aims n e) (λ r h. grind arith) i (map (released n) s)
+    (at_map (released n) (Aims n e) (Aims n e) (λ r h. grind arith) i s a))
 
 -- Where nothing is left down to the place i, the row there has no unfinished job.
 nothing_left : (f i : ℕ) (s : List Row) → 1 ≤ f → sum_to (left f) (suc i) s ≡ 0 → At (λ r. r.rem ≡ 0) i s
 nothing_left f i [] hf z = tt
-nothing_left f zero (r ∷ s) hf z = ⊎_elim (λ h. absurd (omega (arith, cdiv_pos r.rem f hf h))) (λ h. omega arith) (cases_lt 0 r.rem)
+nothing_left f zero (r ∷ s) hf z = grind arith
 nothing_left f (suc i) (r ∷ s) hf z = nothing_left f i s hf (omega arith)
 
 -- Up to p ticks ahead, no more is owed than what is left and what is asked for in p ticks.
@@ -122,7 +122,7 @@ anew f n i s hf g (p, some, low, fits) z = (
   n + p,
   omega arith,
   omega (arith, owed_anew f n p (suc i) s g),
-  at_imp (λ r. (p ≤ r.task.deadline) × (r.rem ≡ 0)) (Aims n (n + p)) (λ r h. (omega arith, λ k. absurd (omega arith))) i s
+  at_imp (λ r. (p ≤ r.task.deadline) × (r.rem ≡ 0)) (Aims n (n + p)) (λ r h. grind arith) i s
       (at_both (λ r. p ≤ r.task.deadline) (λ r. r.rem ≡ 0) i s (at_unmap (λ r. r.task) (λ t. p ≤ t.deadline) i s low)
       (nothing_left f i s hf z)),
 )
@@ -142,7 +142,7 @@ inv_tick f b n i s hf g pass (e, before, fits, aims) = ⊎_elim on idle (cases_l
 
 -- A row with a target ahead is not late.
 pub on_time : (f n i : ℕ) (s : List Row) → Inv f n i s → At (λ r. ¬ (Late n r)) i s
-on_time f n i s (e, before, fits, aims) = at_imp (Aims n e) (λ r. ¬ (Late n r)) (λ r a l. let h = a.1 l.0 in omega arith) i s aims
+on_time f n i s (e, before, fits, aims) = at_imp (Aims n e) (λ r. ¬ (Late n r)) (λ r a l. grind arith) i s aims
 
 -- There are as many tasks as rows.
 pub length_tasks : (s : List Row) → length (tasks s) ≡ length s
@@ -161,7 +161,7 @@ Due r = Valid r.task × (0 < r.rem → r.due ≤ r.next)
 -- At a start, no row has an unfinished job.
 pub start_due : (n : ℕ) (s : List Row) → All Valid (tasks s) → All (Starts n) s → All Due s
 start_due n [] v a = tt
-start_due n (r ∷ s) v a = ((v.0, λ h. absurd (omega (arith, a.0.0))), start_due n s v.1 a.1)
+start_due n (r ∷ s) v a = ((grind arith), start_due n s v.1 a.1)
 
 -- What follows from P and Q follows of every row where both hold.
 pub all_both : (P Q R : Row → Type 0) → ((r : Row) → P r → Q r → R r) → (s : List Row) → All P s → All Q s → All R s
