@@ -11,19 +11,10 @@ use Rattle.theory.proofs.OnTime.{never_late}
 use Rattle.theory.proofs.Plain.{must_be_late, tasks_at_rest}
 use Rattle.theory.proofs.Suffice.{points_suffice}
 
--- Answers are there together where the first and the others are.
-joined_is : (a : Option (ℕ × ℕ)) (rest : Option (List (ℕ × ℕ))) → is_some (joined a rest) ≡ (is_some a && is_some rest)
-joined_is (Some a) (Some rest) = refl
-joined_is (Some a) None = refl
-joined_is None rest = refl
-
 -- Where the rows under `pre` have answers, each of them passes.
 pub each : (f : ℕ) (pre hi : List Task) (i : Task) (lo : List Task) → is_some (answers f pre (hi ++ (i ∷ lo))) ≡ true → passes f (pre ++ hi) i ≡ true
 each f pre [] i lo h = search rules
-each f pre (x ∷ hi) i lo h =
-    let rest = answers f (down_to pre x) (hi ++ (i ∷ lo)) in
-    let both = and_parts (passes f pre x) (is_some rest) (grind arith) in
-    subst (λ (l : List Task). passes f l i ≡ true) (append_assoc pre (x ∷ []) hi) (each f (down_to pre x) hi i lo both.1)
+each f pre (x ∷ hi) i lo h = grind (arith, append_assoc pre (x ∷ []) hi, each f (down_to pre x) hi i lo)
 
 -- A row of the table that does not pass under those above it.
 pub record Refused (f : ℕ) (pre table : List Task) : Type 0 where
@@ -37,8 +28,7 @@ pub record Refused (f : ℕ) (pre table : List Task) : Type 0 where
 pub refused_row : (f : ℕ) (pre table : List Task) → is_some (answers f pre table) ≡ false → Refused f pre table
 refused_row f pre [] h = absurd (true≢false h)
 refused_row f pre (x ∷ table) h =
-    ⊎_elim
-    (λ e. record { above = []; row = x; under = table; split = refl; fails = search rules})
+    ⊎_elim (λ e. record { above = []; row = x; under = table; split = refl; fails = search rules })
     (λ e. later (refused_row f (down_to pre x) table e))
     (and_cases (passes f pre x) (is_some (answers f (down_to pre x) table)) (grind arith))
   where
@@ -48,7 +38,7 @@ refused_row f pre (x ∷ table) h =
       row = r.row;
       under = r.under;
       split = grind arith;
-      fails = subst (λ (l : List Task). passes f l r.row ≡ false) (append_assoc pre (x ∷ []) r.above) r.fails;
+      fails = grind (arith, append_assoc pre (x ∷ []) r.above);
     }
 
 -- Some row cannot be late where none is.
@@ -66,8 +56,7 @@ starts_at_rest (t ∷ ts) = ((refl, omega arith), starts_at_rest ts)
 not_both : (f : ℕ) (table : List Task) → Schedulable f table → PlainRunLate f table → ⊥
 not_both f table safe (k, late) =
     none_late k (plain f k table) late
-    (subst (λ (x : ℕ). All (λ r. ¬ (Late x r)) (plain f k table)) (zero-add k)
-    (grind (arith, tasks_at_rest, starts_at_rest)))
+    (subst (λ (x : ℕ). All (λ r. ¬ (Late x r)) (plain f k table)) (zero-add k) (grind (arith, tasks_at_rest, starts_at_rest)))
 
 -- Where the level passes, every row fits in time.
 pub every_row_fits : (f : ℕ) (table : List Task) → 1 ≤ f → All Valid table → level_passes f table ≡ true → EveryRowFits f table
@@ -77,11 +66,8 @@ every_row_fits f table hf v h hi i lo e = grind (arith, valid_above, points_suff
 pub refused_late : (f : ℕ) (table : List Task) → 1 ≤ f → All Valid table → level_passes f table ≡ false → PlainRunLate f table
 refused_late f table hf v h =
     let r = refused_row f [] table h in
-    let all : All Valid (r.above ++ (r.row ∷ r.under)) = subst (All Valid) r.split v in
-    let w = valid_above r.above r.row r.under all in
-    let (k, low, late) = must_be_late f r.above r.row r.under hf all
-    (λ fit. grind (arith, both_ways, points_suffice)) in
-    (grind arith)
+    let all : All Valid (r.above ++ (r.row ∷ r.under)) = grind arith in
+    let (k, low, late) = must_be_late f r.above r.row r.under hf all (λ fit. grind (arith, valid_above, points_suffice)) in grind arith
 
 -- The test passes just the tables of which no job is ever late, and refuses just those of which the plain run is late.
 pub test_is_exact : TestIsExact

@@ -27,67 +27,42 @@ passes_first (g ∷ fs) table f found e = by (answers g [] table) refl e (passes
         (lowest fs table ≡ Some (f, found) → (answers f [] table ≡ Some found) × NoneBefore f fs table) →
         (answers f [] table ≡ Some found) × NoneBefore f (g ∷ fs) table
     by (Some xs) is h rest =
-        let both : ◌≡◌ {A = ℕ × List (ℕ × ℕ)} (g, xs) (f, found) = cc in
-        let level : g ≡ f = ap (λ (x : ℕ × List (ℕ × ℕ)). x.0) both in
-        let same : xs ≡ found = ap (λ (x : ℕ × List (ℕ × ℕ)). x.1) both in
-        (ap (λ (x : ℕ). answers x [] table) (sym level) ∙ is ∙ ap Some same, ([], fs, ap (λ (x : ℕ). x ∷ fs) level, λ x m. absurd m))
+        (grind arith, ([], fs, grind arith, λ x m. absurd m))
     by None is h rest =
-        let (passes, first) = rest h in
-        let (before, after, split, none) = first in (
-          passes,
-          (
-            g ∷ before,
-            after,
-            ap (λ (xs : List ℕ). g ∷ xs) split,
-            λ x m. ⊎_elim (λ i. grind arith) (λ i. none x i) m,
-          ),
-        )
+        let (passes, (before, after, split, none)) = rest h in (passes, (g ∷ before, after, grind arith, grind arith))
 
 -- The level that `lowest` gives is listed, has the answers found, and those before it have none.
 pub lowest_finds : (fs : List ℕ) (table : List Task) (f : ℕ) (found : List (ℕ × ℕ)) → lowest fs table ≡ Some (f, found) →
     In f fs × (answers f [] table ≡ Some found) × NoneBefore f fs table
 lowest_finds fs table f found e =
-    let (passes, first) = passes_first fs table f found e in
-    let (before, after, split, none) = first in
-    (grind (arith, in_right))
+    let (passes, (before, after, split, none)) = passes_first fs table f found e in grind (arith, in_right)
 
 -- In a rising list, what stands behind a level is above it.
 rises : (low : ℕ) (fs : List ℕ) (g : ℕ) → rising low fs ≡ true → In g fs → low < g
 rises low [] g a m = absurd m
-rises low (f ∷ fs) g a m =
-    let both = and_parts (nat_lt low f) (rising f fs) a in
-    let here = ltb-true low f both.0 in
-    ⊎_elim (λ e. omega arith) (λ i. omega (arith, rises f fs g both.1 i)) m
+rises low (f ∷ fs) g a m = grind (arith, rises f fs g)
 
 -- The end of a rising list rises from the level before it.
 rises_after : (low : ℕ) (before : List ℕ) (f : ℕ) (after : List ℕ) → rising low (before ++ (f ∷ after)) ≡ true → rising f after ≡ true
 rises_after low [] f after a = grind arith
-rises_after low (x ∷ before) f after a = rises_after x before f after (and_parts (nat_lt low x) (rising x (before ++ (f ∷ after))) a).1
+rises_after low (x ∷ before) f after a = grind (arith, rises_after x before f after)
 
 -- Where the levels rise, no listed level below the one that `lowest` gives has answers.
 pub lowest_first : (low : ℕ) (fs : List ℕ) (table : List Task) (f : ℕ) (found : List (ℕ × ℕ)) → rising low fs ≡ true →
     lowest fs table ≡ Some (f, found) → (g : ℕ) → In g fs → g < f → answers g [] table ≡ None
 lowest_first low fs table f found a e g m lt =
-    let (before, after, split, none) = (passes_first fs table f found e).1 in
-    let up : rising f after ≡ true = rises_after low before f after (grind arith) in
-    ⊎_elim (λ i. none g i) (λ i. grind (arith, rises))
-    (in_either g before (f ∷ after) (subst (In g) split m))
+    let (passes, (before, after, split, none)) = passes_first fs table f found e in
+    grind (arith, rises_after low before f after, rises f after g, in_either g before (f ∷ after))
 
 -- Where `lowest` gives no level, no listed level has answers.
 pub lowest_none : (fs : List ℕ) (table : List Task) → lowest fs table ≡ None → (g : ℕ) → In g fs → answers g [] table ≡ None
 lowest_none [] table e g m = absurd m
-lowest_none (f ∷ fs) table e g m = by (answers f [] table) refl e (lowest_none fs table)
-  where
-    by : (o : Option (List (ℕ × ℕ))) → answers f [] table ≡ o → at_level f o (lowest fs table) ≡ None →
-        (lowest fs table ≡ None → (x : ℕ) → In x fs → answers x [] table ≡ None) → answers g [] table ≡ None
-    by (Some xs) is h rest = grind arith
-    by None is h rest = grind arith
+lowest_none (f ∷ fs) table e g m = grind (arith, lowest_none fs table)
 
 -- Where no listed level has answers, `lowest` gives none.
 pub none_lowest : (fs : List ℕ) (table : List Task) → ((g : ℕ) → In g fs → answers g [] table ≡ None) → lowest fs table ≡ None
 none_lowest [] table h = refl
-none_lowest (f ∷ fs) table h =
-    ap (λ (o : Option (List (ℕ × ℕ))). at_level f o (lowest fs table)) (h f (inl refl)) ∙ none_lowest fs table (λ g m. h g (inr m))
+none_lowest (f ∷ fs) table h = grind (arith, none_lowest fs table)
 
 -- One level more of the levels from place k on.
 pub lowest_more : (fs : List ℕ) (k f : ℕ) (table : List Task) → k < length fs → f ≡ get_or fs k f →
