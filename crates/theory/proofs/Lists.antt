@@ -19,6 +19,16 @@ pub in_either : {X : Type 0} (x : X) (xs ys : List X) → In x (xs ++ ys) → In
 in_either x [] ys m = inr m
 in_either x (y ∷ xs) ys m = grind (arith, in_either x xs ys)
 
+-- What follows from P at every element follows of all.
+pub all_imp : {X : Type 0} (P Q : X → Type 0) → ((x : X) → P x → Q x) → (xs : List X) → All P xs → All Q xs
+all_imp P Q h [] a = tt
+all_imp P Q h (x ∷ xs) a = (h x a.0, all_imp P Q h xs a.1)
+
+-- What follows from P and Q at every element follows of all.
+pub all_two : {X : Type 0} (P Q R : X → Type 0) → ((x : X) → P x → Q x → R x) → (xs : List X) → All P xs → All Q xs → All R xs
+all_two P Q R h [] a b = tt
+all_two P Q R h (x ∷ xs) a b = (h x a.0 b.0, all_two P Q R h xs a.1 b.1)
+
 -- Valid rows and a valid row under them are valid together.
 pub valid_down : (hi : List Task) (i : Task) → All Valid hi → Valid i → All Valid (down_to hi i)
 valid_down [] i v w = (w, tt)

@@ -17,8 +17,7 @@ next_low (r ∷ rs) last t = omega (arith, next_low rs (min last (period_end r t
 -- The next point is not before the time that it is looked for from.
 next_high : (rows : List Task) (last t : ℕ) → All Valid rows → t ≤ last → t ≤ next_point rows last t
 next_high [] last t v h = h
-next_high (r ∷ rs) last t v h =
-    next_high rs (min last (period_end r t)) t v.1 (grind arith)
+next_high (r ∷ rs) last t v h = next_high rs (min last (period_end r t)) t v.1 (grind arith)
 
 -- No multiple of a row's period stands between t and the next point.
 next_before : (i : Task) (rows : List Task) (last t q : ℕ) → All Valid rows → Any (Multiple i q) rows → t ≤ q → next_point rows last t ≤ q
@@ -42,8 +41,7 @@ next_is i (r ∷ rs) last t v ht h =
 pub next_asks_no_more : (f : ℕ) (rows : List Task) (last t u : ℕ) → All Valid rows → u ≤ next_point rows last t → demand f rows u ≤ demand f rows t
 next_asks_no_more f [] last t u v h = omega arith
 next_asks_no_more f (r ∷ rs) last t u v h =
-    let c : cdiv u r.period ≤ cdiv t r.period = cdiv_least u r.period (cdiv t r.period) (omega arith)
-    (grind (arith, next_low)) in
+    let c : cdiv u r.period ≤ cdiv t r.period = grind (arith, cdiv_least u r.period (cdiv t r.period), next_low) in
     omega (arith, mul-le-mul_left (cost f r) c, next_asks_no_more f rs (min last (period_end r t)) t u v.1 h)
 
 -- The next point of a row is not before the time that it is looked for from.

@@ -65,27 +65,23 @@ by_serve f b r rs P none some = grind arith
 -- The service keeps what each row keeps when it is given units.
 pub all_serve : (f : ℕ) (b : Bool) (P : Row → Type 0) → ((r : Row) → P r → P (given f b r)) → (rs : List Row) → All P rs → All P (serve f b rs)
 all_serve f b P h [] a = tt
-all_serve f b P h (r ∷ rs) a =
-    by_serve f b r rs (All P) (λ _. (a.0, all_serve f b P h rs a.1)) (λ _. (h r a.0, a.1))
+all_serve f b P h (r ∷ rs) a = grind (arith, all_serve f b P h rs, h r)
 
 -- At the place i, the service keeps what a row keeps when it is given units.
 pub at_serve : (f : ℕ) (b : Bool) (P : Row → Type 0) → ((r : Row) → P r → P (given f b r)) → (i : ℕ) (rs : List Row) → At P i rs → At P i (serve f b rs)
 at_serve f b P h i [] a = tt
 at_serve f b P h zero (r ∷ rs) a = grind arith
-at_serve f b P h (suc i) (r ∷ rs) a = by_serve f b r rs (At P (suc i)) (λ _. at_serve f b P h i rs a) (λ _. a)
+at_serve f b P h (suc i) (r ∷ rs) a = grind (arith, at_serve f b P h i rs)
 
 -- The service leaves the tasks as they are.
 pub tasks_serve : (f : ℕ) (b : Bool) (rs : List Row) → tasks (serve f b rs) ≡ tasks rs
 tasks_serve f b [] = refl
-tasks_serve f b (r ∷ rs) =
-    by_serve f b r rs (λ l. tasks l ≡ tasks (r ∷ rs)) (λ _. ap (λ (l : List Task). r.task ∷ l) (tasks_serve f b rs)) (λ _. refl)
+tasks_serve f b (r ∷ rs) = grind (arith, tasks_serve f b rs)
 
 -- The releases leave the tasks as they are.
 pub tasks_release : (n : ℕ) (rs : List Row) → tasks (map (released n) rs) ≡ tasks rs
 tasks_release n [] = refl
-tasks_release n (r ∷ rs) =
-    by_release n r (λ x. (x.task ∷ tasks (map (released n) rs)) ≡ (r.task ∷ tasks rs)) (λ _. ap (λ (l : List Task). r.task ∷ l) (tasks_release n rs))
-    (λ _. ap (λ (l : List Task). r.task ∷ l) (tasks_release n rs))
+tasks_release n (r ∷ rs) = grind (arith, tasks_release n rs)
 
 -- A tick leaves the tasks as they are.
 pub tasks_tick : (f : ℕ) (b : Bool) (n : ℕ) (rs : List Row) → tasks (tick f b n rs) ≡ tasks rs
@@ -104,11 +100,10 @@ pass_from : (f : ℕ) (pre ts : List Task) → EveryRowFits f (pre ++ ts) → (i
     (p : ℕ) × (1 ≤ p) × At (λ t. p ≤ t.deadline) i ts × (demand f pre p + sum_to (asks f p) (suc i) ts ≤ p)
 pass_from f pre [] pass i h = absurd (omega arith)
 pass_from f pre (t ∷ ts) pass zero h =
-    let (p, some, low, fits) = pass pre t ts refl in
-    (grind (arith, demand_append))
+    let (p, some, low, fits) = pass pre t ts refl in grind (arith, demand_append)
 pass_from f pre (t ∷ ts) pass (suc i) h =
-    let (p, some, low, fits) = pass_from f (pre ++ (t ∷ [])) ts (λ hi j lo e. pass hi j lo (sym (append_assoc pre (t ∷ []) ts) ∙ e)) i (omega arith) in
-    (grind (arith, demand_append))
+    let (p, some, low, fits) = pass_from f (pre ++ (t ∷ [])) ts (grind (arith, append_assoc pre (t ∷ []) ts)) i (omega arith) in
+    grind (arith, demand_append)
 
 -- Where every row of a table fits, so does the one at each place.
 pub pass_at : (f : ℕ) (ts : List Task) → EveryRowFits f ts → (i : ℕ) → i < length ts → PassAt f i ts

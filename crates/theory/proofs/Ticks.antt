@@ -162,8 +162,3 @@ Due r = Valid r.task × (0 < r.rem → r.due ≤ r.next)
 pub start_due : (n : ℕ) (s : List Row) → All Valid (tasks s) → All (Starts n) s → All Due s
 start_due n [] v a = tt
 start_due n (r ∷ s) v a = ((grind arith), start_due n s v.1 a.1)
-
--- What follows from P and Q follows of every row where both hold.
-pub all_both : (P Q R : Row → Type 0) → ((r : Row) → P r → Q r → R r) → (s : List Row) → All P s → All Q s → All R s
-all_both P Q R h [] a b = tt
-all_both P Q R h (r ∷ s) a b = (h r a.0 b.0, all_both P Q R h s a.1 b.1)
