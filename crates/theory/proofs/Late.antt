@@ -70,13 +70,8 @@ left_serve f (suc i) [] hf h = absurd (omega arith)
 left_serve f (suc i) (r ∷ s) hf h =
     grind (arith, left_serve f i s hf, cdiv_none, cdiv_less r.rem f)
 
--- Where ticks are left of a job, so are units.
-pub some_left : (f x : ℕ) → 1 ≤ f → 0 < cdiv x f → 0 < x
-some_left f zero hf h = absurd (omega (arith, cdiv_none f hf))
-some_left f (suc x) hf h = omega arith
-
 -- The service does not end the job at the place i before those above it.
 pub last_left : (f i : ℕ) (s : List Row) → 1 ≤ f → At (λ r. 0 < r.rem) i s → 0 < sum_to (left f) (suc i) (serve f false s) → At (λ r. 0 < r.rem) i (serve f false s)
 last_left f i [] hf a h = tt
-last_left f zero (r ∷ s) hf a h = grind (arith, some_left)
+last_left f zero (r ∷ s) hf a h = grind (arith, cdiv_none f hf)
 last_left f (suc i) (r ∷ s) hf a h = grind (arith, last_left f i s hf a, cdiv_none)

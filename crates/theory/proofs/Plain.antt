@@ -1,5 +1,6 @@
 -- A row whose demand does not fit is not finished before its deadline in the plain run, unless another row is late first.
 use Rattle.std.proofs.Common.{◌≡◌, ℕ, zero, suc, ◌+◌, ◌*◌, ◌<◌, ◌≤◌, false, ◌⊎◌, List, [], ◌∷◌, ◌++◌, map, length, sym, refl, ap, subst, inl, inr, ⊎_elim, mul-le-mul_right, arith, rules}
+use Rattle.std.proofs.lemmas.List.{length-map}
 use Rattle.std.proofs.lemmas.Bool.{cases_lt}
 use Rattle.theory.specs.Lists.{All, Any}
 use Rattle.theory.specs.Tasks.{Task, Valid, cdiv, cost, demand}
@@ -10,7 +11,7 @@ use Rattle.theory.proofs.Cdiv.{cdiv_none, cdiv_pos}
 use Rattle.theory.proofs.Late.{late_or_not, any_from_at, at_from_all, Steady, steady_tick, left_release, left_serve, last_left}
 use Rattle.theory.proofs.Lists.{valid_above}
 use Rattle.theory.proofs.Places.{sum_to, At, at_imp, at_map, at_both, all_map, by_release, at_serve, tasks_tick, asks}
-use Rattle.theory.proofs.Ticks.{left, length_tasks}
+use Rattle.theory.proofs.Ticks.{left}
 
 -- What is asked for down to the place i fits at no time up to d.
 abbrev Fails : ℕ → ℕ → ℕ → List Task → Type 0
@@ -98,7 +99,7 @@ found f i d zero t s hf hd e inv = (
   t,
   omega arith,
   omega arith,
-  any_from_at (Late t) i s (omega (arith, inv.fails.0, length_tasks s))
+  any_from_at (Late t) i s (omega (arith, inv.fails.0, length-map s (λ r. r.task)))
       (grind (arith, at_imp)),
 )
 found f i d (suc l) t s hf hd e inv = go (late_or_not t s) (λ ok. found f i d l (suc t) (tick f false t s) hf hd (omega arith) (inv_tick f i d t s hf (omega arith) ok inv))
