@@ -1,6 +1,5 @@
 -- The answer of a row: its smallest point at which the demand fits, and the demand there.
-use Rattle.std.proofs.Common.{◌≡◌, ℕ, ◌<◌, ◌≤◌, List, Some, None, Option, sym, refl, ap, ◌∙◌, subst, arith, MatchOption}
-use Rattle.std.proofs.lemmas.Bool.{leb-true, leb-false, le-leb}
+use Rattle.std.proofs.Common.{◌≡◌, ℕ, ◌<◌, ◌≤◌, List, Some, None, Option, arith, MatchOption}
 use Rattle.std.specs.Option.{option_map}
 use Rattle.theory.specs.Lists.{All, In}
 use Rattle.theory.specs.Tasks.{Task, Valid, demand}

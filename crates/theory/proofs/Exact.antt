@@ -1,9 +1,9 @@
 -- The test is exact: where it passes no job is ever late, and where it refuses the plain run has a late job.
-use Rattle.std.proofs.Common.{◌≡◌, ℕ, ◌≤◌, true, false, ◌&&◌, List, [], ◌∷◌, ◌++◌, map, is_some, Some, None, Option, sym, refl, ap, ◌∙◌, subst, inl, inr, ⊎_elim, append_assoc, append-nil, zero-add, arith, rules}
-use Rattle.std.proofs.lemmas.Bool.{cases_Bool, both_ways, and_parts, and_cases, true≢false}
+use Rattle.std.proofs.Common.{◌≡◌, ℕ, ◌≤◌, true, false, List, [], ◌∷◌, ◌++◌, map, is_some, refl, subst, inl, inr, ⊎_elim, append_assoc, zero-add, arith, rules}
+use Rattle.std.proofs.lemmas.Bool.{cases_Bool, and_cases, true≢false}
 use Rattle.theory.specs.Lists.{All, Any}
 use Rattle.theory.specs.Tasks.{Task, Valid}
-use Rattle.theory.specs.Test.{down_to, answer, passes, joined, answers, level_passes}
+use Rattle.theory.specs.Test.{down_to, passes, answers, level_passes}
 use Rattle.theory.specs.Ticks.{Row, Late, Starts, plain, at_rest, PlainRunLate}
 use Rattle.theory.specs.Theorems.{EveryRowFits, Schedulable, TestIsExact}
 use Rattle.theory.proofs.Lists.{valid_above}

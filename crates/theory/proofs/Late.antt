@@ -1,12 +1,12 @@
 -- The plain run from tick to tick: what is left of the jobs, after the releases and after the service.
-use Rattle.std.proofs.Common.{◌≡◌, ℕ, zero, suc, ◌+◌, ◌*◌, ◌<◌, ◌≤◌, false, ◌⊎◌, List, [], ◌∷◌, map, length, refl, ap, ◌∙◌, inl, inr, ⊎_elim, arith, rules}
+use Rattle.std.proofs.Common.{◌≡◌, ℕ, zero, suc, ◌+◌, ◌*◌, ◌<◌, ◌≤◌, false, ◌⊎◌, List, [], ◌∷◌, map, length, refl, ap, inl, inr, arith}
 use Rattle.std.proofs.lemmas.Bool.{cases_lt}
 use Rattle.theory.specs.Lists.{All, Any}
 use Rattle.theory.specs.Tasks.{Valid, cdiv, cost}
-use Rattle.theory.specs.Ticks.{Row, released, given, serve, tick, Late, tasks}
+use Rattle.theory.specs.Ticks.{Row, released, serve, tick, Late, tasks}
 use Rattle.theory.proofs.Cdiv.{cdiv_none, cdiv_less}
-use Rattle.theory.proofs.Places.{sum_to, At, all_map, by_release, by_serve, all_serve, asks}
-use Rattle.theory.proofs.Ticks.{left, still}
+use Rattle.theory.proofs.Places.{sum_to, At, all_map, by_release, all_serve, asks}
+use Rattle.theory.proofs.Ticks.{left}
 
 -- Some row is late, or none is.
 pub late_or_not : (n : ℕ) (s : List Row) → Any (Late n) s ⊎ All (λ r. ¬ (Late n r)) s

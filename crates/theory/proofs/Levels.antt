@@ -1,7 +1,6 @@
 -- The lowest level that passes: it is listed, its answers are there, and the levels before it have none.
-use Rattle.std.proofs.Common.{◌≡◌, ℕ, ◌+◌, ◌<◌, Bool, true, ◌&&◌, List, [], ◌∷◌, ◌++◌, length, get_or, drop, Some, None, Option, sym, refl, ap, ◌∙◌, subst, inl, inr, ⊎_elim, arith, nat_lt}
+use Rattle.std.proofs.Common.{◌≡◌, ℕ, ◌+◌, ◌<◌, Bool, true, ◌&&◌, List, [], ◌∷◌, ◌++◌, length, get_or, drop, Some, None, Option, refl, arith, nat_lt}
 use Rattle.std.proofs.lemmas.List.{drop_more}
-use Rattle.std.proofs.lemmas.Bool.{and_parts, ltb-true}
 use Rattle.theory.specs.Lists.{In}
 use Rattle.theory.specs.Tasks.{Task}
 use Rattle.theory.specs.Test.{answers, at_level, lowest}

@@ -1,5 +1,5 @@
 -- What stands in a list, and the validity of the rows of one.
-use Rattle.std.proofs.Common.{◌⊎◌, List, [], ◌∷◌, ◌++◌, inl, inr, ⊎_elim, arith}
+use Rattle.std.proofs.Common.{◌⊎◌, List, [], ◌∷◌, ◌++◌, inr, arith}
 use Rattle.theory.specs.Lists.{All, In}
 use Rattle.theory.specs.Tasks.{Task, Valid}
 use Rattle.theory.specs.Test.{down_to}

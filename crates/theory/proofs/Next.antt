@@ -1,11 +1,11 @@
 -- The next point at a time or after it: it is a point, none stands between, and no row asks for more there.
-use Rattle.std.proofs.Common.{◌≡◌, ℕ, ◌<◌, ◌≤◌, min, ◌⊎◌, List, [], ◌∷◌, refl, inl, inr, ⊎_elim, mul-le-mul_right, mul-le-mul_left, le-div_iff_mul-le, arith}
+use Rattle.std.proofs.Common.{◌≡◌, ℕ, ◌<◌, ◌≤◌, min, ◌⊎◌, List, [], ◌∷◌, refl, inl, inr, ⊎_elim, mul-le-mul_right, mul-le-mul_left, arith}
 use Rattle.std.proofs.lemmas.Bool.{cases_lt}
 use Rattle.theory.specs.Lists.{All, Any, In}
 use Rattle.theory.specs.Tasks.{Task, Valid, cdiv, cost, demand}
 use Rattle.theory.specs.Test.{down_to, points}
 use Rattle.theory.specs.Search.{period_end, next_point}
-use Rattle.theory.proofs.Cdiv.{cdiv_least, cdiv_above, cdiv_pos}
+use Rattle.theory.proofs.Cdiv.{cdiv_least}
 use Rattle.theory.proofs.Lists.{valid_above}
 use Rattle.theory.proofs.Points.{Multiple, points_are, points_have}
 

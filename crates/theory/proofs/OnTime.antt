@@ -1,14 +1,13 @@
 -- No job is late, and none is overwritten: every row keeps a target through the run.
-use Rattle.std.proofs.Common.{◌≡◌, ℕ, zero, suc, ◌+◌, ◌≤◌, Bool, List, [], ◌∷◌, map, length, sym, refl, ap, ◌∙◌, subst, arith}
+use Rattle.std.proofs.Common.{◌≡◌, ℕ, zero, suc, ◌+◌, ◌≤◌, Bool, List, [], ◌∷◌, map, refl, ◌∙◌, arith}
 use Rattle.std.proofs.lemmas.List.{length-map}
 use Rattle.theory.specs.Lists.{All}
-use Rattle.theory.specs.Tasks.{Valid, cdiv}
 use Rattle.theory.specs.Ticks.{Row, released, tick, run, Late, Starts, tasks}
 use Rattle.theory.specs.Theorems.{EveryRowFits, NeverLate, NeverOverwritten}
 use Rattle.theory.proofs.Cdiv.{cdiv_none}
 use Rattle.theory.proofs.Lists.{all_two}
-use Rattle.theory.proofs.Places.{sum_to, At, all_from_at, all_map, by_release, all_serve, tasks_tick, PassAt, pass_at}
-use Rattle.theory.proofs.Ticks.{left, Good, Inv, good_tick, inv_tick, still, anew, on_time, start_good, Due, start_due}
+use Rattle.theory.proofs.Places.{sum_to, At, all_from_at, all_map, all_serve, tasks_tick, PassAt, pass_at}
+use Rattle.theory.proofs.Ticks.{left, Good, Inv, good_tick, inv_tick, anew, on_time, start_good, Due, start_due}
 
 -- A row with a target is not late k ticks on.
 on_time_run : (f : ℕ) (early : ℕ → Bool) (i k n m : ℕ) (s : List Row) → 1 ≤ f → m ≡ n + k → All (Good n) s → PassAt f i (tasks s) → Inv f n i s →

@@ -1,5 +1,5 @@
 -- Sums over the first rows, and what holds of the row at a place.
-use Rattle.std.proofs.Common.{◌≡◌, ℕ, zero, suc, ◌+◌, ◌*◌, ◌<◌, ◌≤◌, Bool, List, [], ◌∷◌, ◌++◌, map, length, sym, refl, ap, ◌∙◌, append_assoc, arith}
+use Rattle.std.proofs.Common.{◌≡◌, ℕ, zero, suc, ◌+◌, ◌*◌, ◌<◌, ◌≤◌, Bool, List, [], ◌∷◌, ◌++◌, map, length, refl, ◌∙◌, append_assoc, arith}
 use Rattle.theory.specs.Lists.{All}
 use Rattle.theory.specs.Tasks.{Task, cdiv, cost, demand}
 use Rattle.theory.specs.Ticks.{Row, fresh, released, given, serve, tick, tasks}

@@ -1,13 +1,13 @@
 -- A row whose demand does not fit is not finished before its deadline in the plain run, unless another row is late first.
-use Rattle.std.proofs.Common.{◌≡◌, ℕ, zero, suc, ◌+◌, ◌*◌, ◌<◌, ◌≤◌, false, ◌⊎◌, List, [], ◌∷◌, ◌++◌, map, length, sym, refl, ap, subst, inl, inr, ⊎_elim, mul-le-mul_right, arith, rules}
+use Rattle.std.proofs.Common.{◌≡◌, ℕ, zero, suc, ◌+◌, ◌<◌, ◌≤◌, false, List, [], ◌∷◌, ◌++◌, map, length, sym, refl, ap, subst, ⊎_elim, arith, length-append, rules}
 use Rattle.std.proofs.lemmas.List.{length-map}
 use Rattle.std.proofs.lemmas.Bool.{cases_lt}
 use Rattle.theory.specs.Lists.{All, Any}
-use Rattle.theory.specs.Tasks.{Task, Valid, cdiv, cost, demand}
+use Rattle.theory.specs.Tasks.{Task, Valid, demand}
 use Rattle.theory.specs.Test.{down_to}
 use Rattle.theory.specs.Ticks.{Row, released, tick, run, Late, tasks, at_rest}
 use Rattle.theory.specs.Theorems.{MustBeLate}
-use Rattle.theory.proofs.Cdiv.{cdiv_none, cdiv_pos}
+use Rattle.theory.proofs.Cdiv.{cdiv_none}
 use Rattle.theory.proofs.Late.{late_or_not, any_from_at, at_from_all, Steady, steady_tick, left_release, left_serve, last_left}
 use Rattle.theory.proofs.Lists.{valid_above}
 use Rattle.theory.proofs.Places.{sum_to, At, at_imp, at_map, at_both, all_map, by_release, at_serve, tasks_tick, asks}
@@ -32,18 +32,7 @@ pub record Inv (f i d t : ℕ) (s : List Row) : Type 0 where
 -- The row is released at 0, and not again before d.
 waits_released : (t d : ℕ) (r : Row) → t < d → Steady t r → Waits d t r → ((released t r).task.deadline ≡ d) × (0 < (released t r).rem) × ((released t r).due ≡ d)
 waits_released t d r h g w =
-    by_release t r (λ x. (x.task.deadline ≡ d) × (0 < x.rem) × (x.due ≡ d))
-    (grind arith)
-    (λ q. grind arith)
-  where
-    T : ℕ
-    T = r.task.period
-
-    TPos : 1 ≤ T
-    TPos = grind arith
-
-    first : t ≡ 0 → r.next ≡ t
-    first z = grind arith
+    by_release t r (λ x. (x.task.deadline ≡ d) × (0 < x.rem) × (x.due ≡ d)) (grind arith) (λ q. grind arith)
 
 -- A tick keeps that, where no row is late.
 inv_tick : (f i d t : ℕ) (s : List Row) → 1 ≤ f → t < d → All (λ r. ¬ (Late t r)) s → Inv f i d t s → Inv f i d (suc t) (tick f false t s)
@@ -99,19 +88,14 @@ found f i d zero t s hf hd e inv = (
   t,
   omega arith,
   omega arith,
-  any_from_at (Late t) i s (omega (arith, inv.fails.0, length-map s (λ r. r.task)))
-      (grind (arith, at_imp)),
+  any_from_at (Late t) i s (omega (arith, inv.fails.0, length-map s (λ r. r.task))) (grind (arith, at_imp)),
 )
-found f i d (suc l) t s hf hd e inv = go (late_or_not t s) (λ ok. found f i d l (suc t) (tick f false t s) hf hd (omega arith) (inv_tick f i d t s hf (omega arith) ok inv))
-  where
-    Goal : Type 0
-    Goal = (k : ℕ) × (m : ℕ) × (m ≡ t + k) × (k ≤ suc l) × Any (Late m) (run f (λ _. false) k t s)
-
-    go : Any (Late t) s ⊎ All (λ r. ¬ (Late t r)) s →
-        (All (λ r. ¬ (Late t r)) s → (k : ℕ) × (m : ℕ) × (m ≡ suc t + k) × (k ≤ l) × Any (Late m) (run f (λ _. false) k (suc t) (tick f false t s))) →
-        Goal
-    go (inl a) next = grind arith
-    go (inr ok) next = let (k, m, em, h, a) = next ok in (suc k, m, omega arith, omega arith, a)
+found f i d (suc l) t s hf hd e inv =
+    ⊎_elim (λ a. (0, t, omega arith, omega arith, a))
+    (λ ok.
+    let (k, m, em, h, a) = found f i d l (suc t) (tick f false t s) hf hd (omega arith) (inv_tick f i d t s hf (omega arith) ok inv) in
+    (suc k, m, omega arith, omega arith, a))
+    (late_or_not t s)
 
 -- What holds of x holds at its place.
 place_at : {X : Type 0} (P : X → Type 0) (hi : List X) (x : X) (lo : List X) → P x → At P (length hi) (hi ++ (x ∷ lo))
@@ -120,8 +104,7 @@ place_at P (y ∷ hi) x lo p = place_at P hi x lo p
 
 -- The place of x is within the list.
 place_in : {X : Type 0} (hi : List X) (x : X) (lo : List X) → length hi < length (hi ++ (x ∷ lo))
-place_in [] x lo = omega arith
-place_in (y ∷ hi) x lo = omega (arith, place_in hi x lo)
+place_in hi x lo = omega (arith, length-append hi (x ∷ lo))
 
 -- The sum down to the place of a row is the demand of the rows down to it.
 place_sum : (f t : ℕ) (hi : List Task) (x : Task) (lo : List Task) → sum_to (asks f t) (suc (length hi)) (hi ++ (x ∷ lo)) ≡ demand f (down_to hi x) t
@@ -136,24 +119,20 @@ tasks_at_rest (t ∷ ts) = ap (λ (l : List Task). t ∷ l) (tasks_at_rest ts)
 -- The rows at rest are steady at tick 0.
 start_steady : (ts : List Task) → All Valid ts → All (Steady 0) (map at_rest ts)
 start_steady ts v =
-    all_map at_rest Valid (Steady 0)
-    (grind arith)
-    ts v
+    all_map at_rest Valid (Steady 0) (grind arith) ts v
 
 -- At tick 0 nothing is left, and nothing is asked for.
 start_sums : (f i : ℕ) (ts : List Task) → 1 ≤ f → All Valid ts → sum_to (left f) i (map at_rest ts) + 0 ≡ sum_to (asks f 0) i ts
 start_sums f zero ts hf v = refl
 start_sums f (suc i) [] hf v = refl
 start_sums f (suc i) (t ∷ ts) hf v =
-    let p : 1 ≤ t.period = omega (arith, v.0) in
-    omega (arith, start_sums f i ts hf v.1, cdiv_none f hf, ap (λ (x : ℕ). cost f t * x) (cdiv_none t.period p))
+    grind (arith, start_sums f i ts, cdiv_none f, cdiv_none t.period)
 
 -- Where the demand of a row does not fit in time, the plain run has a late job by the deadline of that row.
 pub must_be_late : MustBeLate
 must_be_late f hi i lo hf v no_fit =
     let (k, m, e, h, a) = found f (length hi) d d 0 s hf pos (omega arith) start in
-    let same : m ≡ k = omega arith in
-    (grind arith)
+    grind arith
   where
     table : List Task
     table = hi ++ (i ∷ lo)

@@ -17,16 +17,14 @@ pub jump : (f : ℕ) (hi : List Task) (i : Task) (t : ℕ) → All Valid (down_t
     next_point (down_to hi i) i.deadline t < demand f (down_to hi i) (next_point (down_to hi i) i.deadline t) →
     NoneBelow f hi i (demand f (down_to hi i) (next_point (down_to hi i) i.deadline t))
 jump f hi i t all none over q m h =
-    let p = next_point (down_to hi i) i.deadline t in
-    ⊎_elim (λ low. none q m low) (λ high. omega (arith, demand_mono f (down_to hi i) p q all (next_first hi i t q all m high))) (cases_lt q t)
+    grind (arith, demand_mono f (down_to hi i) (next_point (down_to hi i) i.deadline t) q, next_first hi i t q)
 
 -- Where the demand fits at the next point, that is the answer.
 pub found : (f : ℕ) (hi : List Task) (i : Task) (t : ℕ) → All Valid (down_to hi i) → 1 ≤ t → NoneBelow f hi i t →
     demand f (down_to hi i) (next_point (down_to hi i) i.deadline t) ≤ next_point (down_to hi i) i.deadline t →
     answer f hi i ≡ Some (next_point (down_to hi i) i.deadline t, demand f (down_to hi i) (next_point (down_to hi i) i.deadline t))
 found f hi i t all ht none fit =
-    let p = next_point (down_to hi i) i.deadline t in
-    some_answer f hi i p (grind (arith, next_is_point, next_first, cases_lt))
+    some_answer f hi i (next_point (down_to hi i) i.deadline t) (grind (arith, next_is_point, next_first))
 
 -- Where the search is past the deadline, there is no answer.
 pub exhausted : (f : ℕ) (hi : List Task) (i : Task) (t : ℕ) → All Valid (down_to hi i) → NoneBelow f hi i t → i.deadline < t → answer f hi i ≡ None

@@ -1,6 +1,5 @@
 -- The smallest number of a list that has a property: it stands in the list, has the property, and no smaller one does both.
-use Rattle.std.proofs.Common.{◌≡◌, ℕ, ◌<◌, ◌≤◌, min, Bool, true, false, List, [], ◌∷◌, Some, None, Option, cond, sym, refl, ap, ◌∙◌, subst, inl, inr, ⊎_elim, arith, MatchOption}
-use Rattle.std.proofs.lemmas.Bool.{cases_lt, cond_both, both_ways}
+use Rattle.std.proofs.Common.{◌≡◌, ℕ, ◌≤◌, Bool, true, false, List, [], ◌∷◌, Some, None, Option, cond, arith, MatchOption}
 use Rattle.theory.specs.Lists.{In}
 use Rattle.theory.specs.Test.{lesser, smallest}
 

@@ -1,7 +1,7 @@
 -- The answers of a table, place by place.
-use Rattle.std.proofs.Common.{◌≡◌, ℕ, zero, suc, ◌+◌, ◌<◌, cond, List, [], ◌∷◌, ◌++◌, length, get_or, take, is_some, Some, None, Option, refl, ap, ◌∙◌, ap₂, append_assoc, append-nil, arith, rules}
+use Rattle.std.proofs.Common.{◌≡◌, ℕ, zero, suc, ◌+◌, ◌<◌, List, [], ◌∷◌, ◌++◌, length, get_or, take, Some, None, refl, ap, ◌∙◌, append_assoc, append-nil, arith, rules}
 use Rattle.theory.specs.Tasks.{Task, no_task}
-use Rattle.theory.specs.Test.{down_to, answer, joined, answers, passing, first_failing}
+use Rattle.theory.specs.Test.{down_to, answer, answers, passing, first_failing}
 
 -- Each of the first n rows of the table has the answer found for it.
 abbrev pub Answered : ℕ → List Task → ℕ → List (ℕ × ℕ) → Type 0
@@ -31,8 +31,8 @@ all_under f hi [] [] h e = refl
 all_under f hi [] (a ∷ found) h e = absurd (omega arith)
 all_under f hi (i ∷ lo) [] h e = absurd (omega arith)
 all_under f hi (i ∷ lo) (a ∷ found) h e =
-    ap₂ joined (answer_first f hi i ∙ h 0 (omega arith))
-    (all_under f (down_to hi i) lo found (under_next f hi i lo (length lo) (λ k. get_or (a ∷ found) k (0, 0)) h) (omega arith))
+    let first = h 0 (omega arith) in
+    grind (arith, answer_first, all_under f (down_to hi i) lo found, under_next f hi i lo (length lo) (λ k. get_or (a ∷ found) k (0, 0)) h)
 
 -- Where each row of a table has its answer, the answers are those.
 pub all_answered : (f : ℕ) (table : List Task) (found : List (ℕ × ℕ)) → Answered f table (length table) found → length found ≡ length table →
@@ -46,16 +46,12 @@ fails_under f hi [] n g lt h e = absurd (omega arith)
 fails_under f hi (i ∷ lo) zero g lt h e = search rules
 fails_under f hi (i ∷ lo) (suc n) g lt h e =
     let here : answer f hi i ≡ Some (g 0) = answer_first f hi i ∙ h 0 (omega arith) in
-    let rest = fails_under f (down_to hi i) lo n (λ k. g (suc k)) (omega arith) (under_next f hi i lo n g h)
-    (grind (arith, answer_next)) in (
-      ap₂ joined here rest.0,
-      ap (λ (o : Option (ℕ × ℕ)). cond (is_some o) (suc (passing f (down_to hi i) lo)) 0) here ∙ ap suc rest.1,
-    )
+    let rest = fails_under f (down_to hi i) lo n (λ k. g (suc k)) (omega arith) (under_next f hi i lo n g h) (grind (arith, answer_next)) in
+    grind arith
 
 -- Where the rows before the place n have answers and the row there has none, there are no answers, and the row there is the
 -- first that does not pass.
 pub first_fails : (f : ℕ) (table : List Task) (n : ℕ) (found : List (ℕ × ℕ)) → n < length table → Answered f table n found →
     answer f (take n table) (get_or table n no_task) ≡ None → (answers f [] table ≡ None) × (first_failing f table ≡ n + 1)
 first_fails f table n found lt h e =
-    let both = fails_under f [] table n (λ k. get_or found k (0, 0)) lt h e in
-    (grind arith)
+    let both = fails_under f [] table n (λ k. get_or found k (0, 0)) lt h e in grind arith

@@ -1,27 +1,11 @@
 -- What a row owes up to a target: from tick to tick it fits before the target, so the row is not late.
-use Rattle.std.proofs.Common.{◌≡◌, ℕ, zero, suc, ◌+◌, ◌-◌, ◌*◌, ◌<◌, ◌≤◌, Bool, true, false, List, [], ◌∷◌, map, length, sym, refl, ap, ◌∙◌, subst, ⊎_elim, mul-le-mul_left, arith}
+use Rattle.std.proofs.Common.{◌≡◌, ℕ, zero, suc, ◌+◌, ◌-◌, ◌*◌, ◌<◌, ◌≤◌, Bool, List, [], ◌∷◌, map, ap, ⊎_elim, mul-le-mul_left, arith}
 use Rattle.std.proofs.lemmas.Bool.{cases_lt}
 use Rattle.theory.specs.Lists.{All}
 use Rattle.theory.specs.Tasks.{Valid, cdiv, cost}
 use Rattle.theory.specs.Ticks.{Row, released, given, serve, tick, Late, Starts, tasks}
-use Rattle.theory.proofs.Cdiv.{cdiv_mono, cdiv_none, cdiv_pos, cdiv_less}
-use Rattle.theory.proofs.Places.{
-  sum_to,
-  At,
-  at_imp,
-  at_map,
-  at_unmap,
-  at_both,
-  all_map,
-  by_release,
-  by_serve,
-  all_serve,
-  at_serve,
-  tasks_serve,
-  tasks_release,
-  asks,
-  PassAt,
-}
+use Rattle.theory.proofs.Cdiv.{cdiv_mono, cdiv_none, cdiv_less}
+use Rattle.theory.proofs.Places.{sum_to, At, at_imp, at_map, at_unmap, at_both, all_map, by_release, all_serve, at_serve, tasks_serve, tasks_release, asks, PassAt}
 
 -- The ticks that a row's unfinished job still takes.
 abbrev pub left : ℕ → Row → ℕ
