@@ -7,10 +7,11 @@ use Rattle.fault.specs.declared.Fault.{Fault}
 use Rattle.fault.specs.declared.Refusal.TheVariants.{BadCount, UnitNotReady, LevelNotTaken, EarlyStart}
 use Rattle.fault.specs.Faults.{fault_at}
 use Rattle.theory.specs.Lists.{All}
+use Rattle.theory.proofs.Lists.{all_imp}
 use Rattle.units.specs.Meaning.{Meaning, Nature, ready}
 use Rattle.machine.specs.Begin.{place_of, count_fault, late_fault, ready_fault, untaken_fault, early_fault, or_else, begin_fault, firsts}
 use Rattle.machine.specs.Plans.{Plan, Planned}
-use Rattle.machine.proofs.Lists.{all_imp, all_at, any_all}
+use Rattle.machine.proofs.Lists.{all_at, any_all}
 use Rattle.machine.proofs.Unit.{ready_is}
 
 -- A fault is not none.

@@ -2,13 +2,14 @@
 use Rattle.std.proofs.Common.{◌≡◌, ℕ, zero, suc, ◌+◌, ◌<◌, ◌≤◌, ◌≢◌, List, [], ◌∷◌, length, get_or, replicate, None, sym, refl, ap, subst, inl, arith, nat_lt}
 use lib.ListN.{length-replicate}
 use Rattle.std.proofs.lemmas.Bool.{cond_both}
+use Rattle.std.proofs.lemmas.List.{length-map}
 use Rattle.queue.specs.declared.Entry.{Entry}
 use Rattle.queue.specs.Entries.{sooner}
 use Rattle.queue.specs.Order.{ordered}
 use Rattle.theory.specs.Lists.{All, Any}
 use Rattle.theory.specs.Tasks.{Task, Valid}
 use Rattle.theory.specs.Ticks.{Row, tasks}
-use Rattle.theory.proofs.Ticks.{length_tasks}
+use Rattle.theory.proofs.Lists.{all_imp}
 use Rattle.units.specs.Calls.{ask_with}
 use Rattle.units.specs.Meaning.{Meaning, Nature}
 use Rattle.machine.specs.Begin.{firsts, put_all, opening, begun}
@@ -17,7 +18,7 @@ use Rattle.machine.specs.Machine.{Lags}
 use Rattle.machine.specs.Plans.{Plan, Planned}
 use Rattle.machine.proofs.Accepted.{Accepted}
 use Rattle.machine.proofs.Holds.{tallies, Holds, passing, settle_holds}
-use Rattle.machine.proofs.Lists.{Pairs, all_imp, all_ordered, any_here, any_there}
+use Rattle.machine.proofs.Lists.{Pairs, all_ordered, any_here, any_there}
 use Rattle.machine.proofs.Load.{Sound, Passing, sound_anew}
 use Rattle.machine.proofs.Orders.{Apart, sorted_with}
 use Rattle.machine.proofs.Records.{Kept}
@@ -90,7 +91,7 @@ begin_holds x p starts l u planned within a =
     table = first_tasks p.tasks bs a.size
 
     size : length rows ≡ length bs
-    size = omega (arith, length_tasks rows, ap length table, a.size)
+    size = omega (arith, length-map rows (λ r. r.task), ap length table, a.size)
 
     waits : (k : ℕ) → k < length rows → Waits (get_or bs k 0) (row_at rows k)
     waits k h = first_waits p.tasks bs k h

@@ -6,8 +6,9 @@ use Rattle.queue.specs.Entries.{sooner}
 use Rattle.queue.specs.Order.{ordered}
 use Rattle.theory.specs.Lists.{All}
 use Rattle.theory.specs.Ticks.{Row}
+use Rattle.theory.proofs.Lists.{all_imp}
 use Rattle.machine.specs.Inner.{release_at}
-use Rattle.machine.proofs.Lists.{all_imp, all_ordered, any_here, any_there}
+use Rattle.machine.proofs.Lists.{all_ordered, any_here, any_there}
 use Rattle.machine.proofs.Orders.{sorted_with}
 use Rattle.machine.proofs.Rows.{no_row, row_at, each_set}
 use Rattle.machine.proofs.Shape.{some_same, none_some, Waits, Delayed, Queued, Placed, Shape}

@@ -3,22 +3,13 @@ use Rattle.std.proofs.Common.{◌≡◌, ℕ, zero, suc, ◌<◌, ◌≤◌, Boo
 use Rattle.std.proofs.lemmas.Bool.{cond_both}
 use Rattle.queue.specs.Order.{ordered}
 use Rattle.theory.specs.Lists.{All, Any}
+use Rattle.theory.proofs.Lists.{all_two}
 use Rattle.theory.proofs.Places.{sum_to, At}
 
 -- R holds of each entry and every later one.
 abbrev pub Pairs : {X : Type 0} → (X → X → Type 0) → List X → Type 0
 Pairs R [] = Unit {0}
 Pairs R (x ∷ xs) = All (R x) xs × Pairs R xs
-
--- What follows from P at every element follows of all.
-pub all_imp : {X : Type 0} (P Q : X → Type 0) → ((x : X) → P x → Q x) → (xs : List X) → All P xs → All Q xs
-all_imp P Q h [] a = tt
-all_imp P Q h (x ∷ xs) a = (h x a.0, all_imp P Q h xs a.1)
-
--- What follows from P and Q at every element follows of all.
-pub all_two : {X : Type 0} (P Q R : X → Type 0) → ((x : X) → P x → Q x → R x) → (xs : List X) → All P xs → All Q xs → All R xs
-all_two P Q R h [] a b = tt
-all_two P Q R h (x ∷ xs) a b = (h x a.0 b.0, all_two P Q R h xs a.1 b.1)
 
 -- An element that is there has what all have.
 pub any_all : {X : Type 0} (P Q : X → Type 0) (C : Type 0) → ((x : X) → P x → Q x → C) → (xs : List X) → Any P xs → All Q xs → C

@@ -1,13 +1,14 @@
 -- The theory's invariant of each row, under the writes that a run makes: a release, a service, a new start.
 use Rattle.std.proofs.Common.{◌≡◌, ℕ, zero, suc, ◌+◌, ◌<◌, ◌≤◌, Bool, List, [], ◌∷◌, length, set, sym, refl, ap, subst, ⊎_elim, arith, length-set, ◌==◌}
 use Rattle.std.proofs.lemmas.Bool.{cases_lt, cond-true, eq-eqb}
+use Rattle.std.proofs.lemmas.List.{length-map}
 use Rattle.theory.specs.Lists.{All}
 use Rattle.theory.specs.Tasks.{Task, Valid, cdiv}
 use Rattle.theory.specs.Theorems.{EveryRowFits}
 use Rattle.theory.specs.Ticks.{Row, fresh, released, given, serve, tasks}
 use Rattle.theory.proofs.Cdiv.{cdiv_none}
 use Rattle.theory.proofs.Places.{sum_to, at_imp, at_serve, all_serve, tasks_serve, PassAt, pass_at}
-use Rattle.theory.proofs.Ticks.{left, owed, Good, Aims, Inv, left_owed, owed_released, owed_serve, still, anew, length_tasks}
+use Rattle.theory.proofs.Ticks.{left, owed, Good, Aims, Inv, left_owed, owed_released, owed_serve, still, anew, inv_serve}
 use Rattle.machine.proofs.Lists.{all_by, at_get, at_set, sum_set}
 use Rattle.machine.proofs.Rows.{no_row, row_at, each_set, serve_is}
 
@@ -35,7 +36,7 @@ none_left f (suc m) (r ∷ rows) hf z =
 
 -- Where every row fits, so does the one at each place.
 passing_at : (f k : ℕ) (rows : List Row) → Passing f (tasks rows) → k < length rows → PassAt f k (tasks rows)
-passing_at f k rows p h = pass_at f (tasks rows) p.1 k (omega (arith, length_tasks rows))
+passing_at f k rows p h = pass_at f (tasks rows) p.1 k (omega (arith, length-map rows (λ r. r.task)))
 
 -- With nothing unfinished, all is set anew.
 pub sound_anew : (f n a : ℕ) (rows : List Row) → Passing f (tasks rows) → ((k : ℕ) → k < length rows → Valid (row_at rows k).task) →
@@ -83,23 +84,6 @@ sound_fresh f n a rows i p hi due s = record {
       omega (arith, sum_set (owed f e) no_row v (suc k) i rows hi (subst (λ (x : Row). owed f e x ≤ owed f e r) same (owed_released f n e r p.0 before (s.valid i hi)))),
       at_set (Aims n e) no_row v k i rows (λ h. (h.0, λ _. h.0)) aims,
     )
-
--- A tick at the level f for the first unfinished job keeps the target, or leaves nothing, so that there is a new one.
-inv_serve : (f : ℕ) (b : Bool) (n i : ℕ) (s : List Row) → 1 ≤ f → All (Good (suc n)) s → PassAt f i (tasks s) → Inv f n i s → Inv f (suc n) i (serve f b s)
-inv_serve f b n i s hf g pass (e, before, fits, aims) = ⊎_elim on idle (cases_lt 0 (sum_to (left f) (suc i) (serve f b s)))
-  where
-    on : 0 < sum_to (left f) (suc i) (serve f b s) → Inv f (suc n) i (serve f b s)
-    on h =
-        let less = owed_serve f e b (suc i) s hf h in (
-          e,
-          omega (arith, left_owed f e (suc i) (serve f b s)),
-          omega arith,
-          at_imp (Aims n e) (Aims (suc n) e) (λ r a. (omega arith, a.1)) i (serve f b s)
-              (at_serve f b (Aims n e) (λ r a. (a.0, λ k. a.1 (still f b r k))) i s aims),
-        )
-
-    idle : sum_to (left f) (suc i) (serve f b s) ≤ 0 → Inv f (suc n) i (serve f b s)
-    idle h = anew f (suc n) i (serve f b s) hf (all_serve f b (Good (suc n)) (λ r a. a) s g) (subst (PassAt f i) (sym (tasks_serve f b s)) pass) (omega arith)
 
 -- A tick at the level f for the first unfinished job leads to sound rows at the next tick.
 pub sound_serve : (f : ℕ) (b : Bool) (n a : ℕ) (rows : List Row) (i : ℕ) → Passing f (tasks rows) → i < length rows → 0 < (row_at rows i).rem →

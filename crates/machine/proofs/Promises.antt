@@ -1,10 +1,10 @@
 -- The promises, from what holds of every run with its history.
 use Rattle.std.proofs.Common.{◌≡◌, ℕ, suc, ◌+◌, ◌*◌, ◌<◌, ◌≤◌, true, List, [], ◌∷◌, length, get_or, sym, ap, ◌∙◌, subst, inl, inr, ⊎_elim, mul-le-mul_right, arith}
 use Rattle.std.proofs.lemmas.Bool.{cases_lt, cases_eq}
+use Rattle.std.proofs.lemmas.List.{length-map}
 use Rattle.theory.specs.Lists.{All}
 use Rattle.theory.specs.Tasks.{Task, Valid}
 use Rattle.theory.specs.Ticks.{Row}
-use Rattle.theory.proofs.Ticks.{length_tasks}
 use Rattle.units.specs.Meaning.{Meaning, Nature, works}
 use Rattle.machine.specs.Begin.{firsts}
 use Rattle.machine.specs.History.{History, Unfinished, Late, release_of}
@@ -68,7 +68,7 @@ module _ (x : Nature) (p : Plan) (planned : Planned p) (first : List ℕ) (h : H
 
   -- Each row of the table is one of the rows.
   in_rows : (i : ℕ) → i < length ts → i < length rows
-  in_rows i hi = omega (arith, length_tasks rows, ap length a.held.kept.table)
+  in_rows i hi = omega (arith, length-map rows (λ r. r.task), ap length a.held.kept.table)
 
   -- It has the task of the table.
   task_same : (i : ℕ) → i < length ts → (row_at rows i).task ≡ task_at ts i

@@ -7,11 +7,11 @@ use Rattle.queue.specs.Order.{ordered}
 use Rattle.theory.specs.Lists.{All}
 use Rattle.theory.specs.Tasks.{Task}
 use Rattle.theory.specs.Ticks.{Row, fresh}
+use Rattle.theory.proofs.Lists.{all_imp}
 use Rattle.machine.specs.declared.job.Job.{Job}
 use Rattle.machine.specs.History.{Tally}
 use Rattle.machine.specs.Inner.{Inner, in_line, new_job, released}
 use Rattle.machine.specs.Plans.{task_at}
-use Rattle.machine.proofs.Lists.{all_imp}
 use Rattle.machine.proofs.Load.{Sound, Passing, sound_fresh}
 use Rattle.machine.proofs.Orders.{Apart}
 use Rattle.machine.proofs.Records.{Kept, kept_pop}

@@ -7,6 +7,7 @@ use Rattle.queue.specs.Order.{ordered}
 use Rattle.theory.specs.Lists.{All}
 use Rattle.theory.specs.Tasks.{Task}
 use Rattle.theory.specs.Ticks.{Row}
+use Rattle.theory.proofs.Lists.{all_imp}
 use Rattle.units.specs.Calls.{ask_with, rest_for}
 use Rattle.units.specs.Meaning.{Meaning, Nature, ready, works}
 use Rattle.machine.specs.declared.job.Job.{Job}
@@ -15,7 +16,7 @@ use Rattle.machine.specs.History.{Tally}
 use Rattle.machine.specs.Inner.{Inner, in_line, job_at, released, release_due, elected, elect}
 use Rattle.machine.specs.Plans.{Plan, task_at}
 use Rattle.machine.specs.Speed.{Speed, may_ask, may_rest, rest_until, window_end, window, enough_in, slow_to, slow_for, rest_or_slow, spared}
-use Rattle.machine.proofs.Lists.{Pairs, all_imp}
+use Rattle.machine.proofs.Lists.{Pairs}
 use Rattle.machine.proofs.Load.{Sound, Passing, sound_due}
 use Rattle.machine.proofs.Orders.{Apart}
 use Rattle.machine.proofs.Records.{Lives, Kept}

@@ -8,9 +8,10 @@ use Rattle.queue.specs.Order.{ordered}
 use Rattle.theory.specs.Lists.{All, Any}
 use Rattle.theory.specs.Tasks.{Valid}
 use Rattle.theory.specs.Ticks.{Row, fresh}
+use Rattle.theory.proofs.Lists.{all_imp, all_two}
 use Rattle.machine.specs.declared.job.Job.{Job}
 use Rattle.machine.specs.Inner.{Inner, in_line, elected}
-use Rattle.machine.proofs.Lists.{Pairs, all_imp, all_two, any_all, all_ordered, any_here, any_there}
+use Rattle.machine.proofs.Lists.{Pairs, any_all, all_ordered, any_here, any_there}
 use Rattle.machine.proofs.Orders.{Apart, Rising, rows_true, rows_false, rising_with}
 use Rattle.machine.proofs.Rows.{no_row, row_at, each_set}
 

@@ -8,6 +8,7 @@ use Rattle.queue.specs.Order.{ordered}
 use Rattle.theory.specs.Lists.{All}
 use Rattle.theory.specs.Tasks.{Task, Valid}
 use Rattle.theory.specs.Ticks.{Row, given}
+use Rattle.theory.proofs.Lists.{all_imp}
 use Rattle.units.specs.Calls.{tick_with}
 use Rattle.units.specs.Meaning.{Meaning, Nature, works}
 use Rattle.machine.specs.declared.job.Job.{Job}
@@ -21,7 +22,6 @@ use Rattle.machine.specs.Machine.{Now, Lags, Within, pass, outcome_of, pace_afte
 use Rattle.machine.specs.Plans.{Plan, Planned, task_at}
 use Rattle.machine.proofs.Give.{shape_on, shape_end}
 use Rattle.machine.proofs.Holds.{tallies, state_of, Holds, passing, settle_holds, settle_over}
-use Rattle.machine.proofs.Lists.{all_imp}
 use Rattle.machine.proofs.Load.{Sound, Passing, sound_anew, sound_serve}
 use Rattle.machine.proofs.Records.{Lives, Kept, kept_on, kept_end}
 use Rattle.machine.proofs.Rows.{no_row, row_at, each_set, task_is, valid_at}

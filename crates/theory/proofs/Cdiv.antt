@@ -6,17 +6,9 @@ use Rattle.theory.specs.Tasks.{cdiv}
 pub cdiv_least : (a b k : ℕ) → 1 ≤ b → a ≤ k * b → cdiv a b ≤ k
 cdiv_least a b k hb h = grind arith
 
--- The quotient times b reaches a.
-pub cdiv_above : (a b : ℕ) → 1 ≤ b → a ≤ cdiv a b * b
-cdiv_above a b hb = grind arith
-
 -- The quotient times b is less than b above a.
 pub cdiv_tight : (a b : ℕ) → 1 ≤ b → cdiv a b * b < a + b
 cdiv_tight a b hb = grind arith
-
--- What reaches a by less than b is the quotient.
-pub cdiv_is : (a b k : ℕ) → 1 ≤ b → a ≤ k * b → k * b < a + b → cdiv a b ≡ k
-cdiv_is a b k hb low high = grind arith
 
 -- A larger number has no smaller quotient.
 pub cdiv_mono : (a c b : ℕ) → 1 ≤ b → a ≤ c → cdiv a b ≤ cdiv c b
