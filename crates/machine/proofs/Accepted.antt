@@ -16,7 +16,7 @@ use Rattle.machine.proofs.Unit.{ready_is}
 
 -- A fault is not none.
 some_none : {X : Type 0} (e : X) → Some e ≡ None → ⊥
-some_none e h = let z : ◌≡◌ {A = ℕ} 0 1 = cc in omega arith
+some_none e h = grind arith
 
 -- Where neither of two faults is found, the first is not, and the second is not.
 or_else_none : (a b : Option Fault) → or_else a b ≡ None → (a ≡ None) × (b ≡ None)

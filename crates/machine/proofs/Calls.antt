@@ -43,7 +43,7 @@ module _ (x : Nature) (p : Plan) (planned : Planned p) (takes : x.takes p.admitt
   -- A refused word changes nothing.
   unchanged : (s : Inner) (pace : Pace) (e : Fault) → Held x p first (tallies p h) n s (record { pace = pace; unit = u }) →
       After (record { reply = Refused e; now = same (state_of x n s pace) u })
-  unchanged s pace e held = record { n = n; s = s; pace = pace; is = refl; told = told; held = held }
+  unchanged s pace e held = grind arith
 
   -- A tick in which no row runs.
   idle : (s : Inner) (held : Held x p first (tallies p h) n s (record { pace = Full; unit = u })) →

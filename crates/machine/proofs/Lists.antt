@@ -1,6 +1,5 @@
 -- Lists: pairs in order, what an ordered put keeps, and what stands at a place.
 use Rattle.std.proofs.Common.{◌≡◌, ℕ, zero, suc, ◌<◌, ◌≤◌, Bool, true, false, List, [], ◌∷◌, length, get_or, set, inl, inr, ⊎_elim, arith}
-use Rattle.std.proofs.lemmas.Bool.{cond_both}
 use Rattle.queue.specs.Order.{ordered}
 use Rattle.theory.specs.Lists.{All, Any}
 use Rattle.theory.proofs.Lists.{all_two}
@@ -21,7 +20,7 @@ module _ {E : Type 0} (before : E → E → Bool) (x : E) where
   -- What holds of a list whether or not its head stays before x holds of the list with x in its place.
   by_ordered : (y : E) (ys : List E) (P : List E → Type 0) →
       (before y x ≡ true → P (y ∷ ordered before x ys)) → (before y x ≡ false → P (x ∷ y ∷ ys)) → P (ordered before x (y ∷ ys))
-  by_ordered y ys P p q = cond_both (before y x) (y ∷ ordered before x ys) (x ∷ y ∷ ys) P p q
+  by_ordered y ys P p q = grind arith
 
   -- What holds of x and of all holds of all with x in its place.
   pub all_ordered : (P : E → Type 0) (xs : List E) → P x → All P xs → All P (ordered before x xs)

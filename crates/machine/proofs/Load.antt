@@ -1,14 +1,14 @@
 -- The theory's invariant of each row, under the writes that a run makes: a release, a service, a new start.
-use Rattle.std.proofs.Common.{◌≡◌, ℕ, zero, suc, ◌+◌, ◌<◌, ◌≤◌, Bool, List, [], ◌∷◌, length, set, sym, refl, ap, subst, ⊎_elim, arith, length-set, ◌==◌}
-use Rattle.std.proofs.lemmas.Bool.{cases_lt, cond-true, eq-eqb}
+use Rattle.std.proofs.Common.{◌≡◌, ℕ, zero, suc, ◌+◌, ◌<◌, ◌≤◌, Bool, List, [], ◌∷◌, length, set, refl, ap, subst, arith, length-set, ◌==◌}
+use Rattle.std.proofs.lemmas.Bool.{cond-true, eq-eqb}
 use Rattle.std.proofs.lemmas.List.{length-map}
 use Rattle.theory.specs.Lists.{All}
 use Rattle.theory.specs.Tasks.{Task, Valid, cdiv}
 use Rattle.theory.specs.Theorems.{EveryRowFits}
-use Rattle.theory.specs.Ticks.{Row, fresh, released, given, serve, tasks}
+use Rattle.theory.specs.Ticks.{Row, fresh, released, given, tasks}
 use Rattle.theory.proofs.Cdiv.{cdiv_none}
-use Rattle.theory.proofs.Places.{sum_to, at_imp, at_serve, all_serve, tasks_serve, PassAt, pass_at}
-use Rattle.theory.proofs.Ticks.{left, owed, Good, Aims, Inv, left_owed, owed_released, owed_serve, still, anew, inv_serve}
+use Rattle.theory.proofs.Places.{sum_to, PassAt, pass_at}
+use Rattle.theory.proofs.Ticks.{left, owed, Good, Aims, Inv, owed_released, anew, inv_serve}
 use Rattle.machine.proofs.Lists.{all_by, at_get, at_set, sum_set}
 use Rattle.machine.proofs.Rows.{no_row, row_at, each_set, serve_is}
 
@@ -36,7 +36,7 @@ none_left f (suc m) (r ∷ rows) hf z =
 
 -- Where every row fits, so does the one at each place.
 passing_at : (f k : ℕ) (rows : List Row) → Passing f (tasks rows) → k < length rows → PassAt f k (tasks rows)
-passing_at f k rows p h = pass_at f (tasks rows) p.1 k (omega (arith, length-map rows (λ r. r.task)))
+passing_at f k rows p h = grind (arith, pass_at, length-map)
 
 -- With nothing unfinished, all is set anew.
 pub sound_anew : (f n a : ℕ) (rows : List Row) → Passing f (tasks rows) → ((k : ℕ) → k < length rows → Valid (row_at rows k).task) →

@@ -1,5 +1,5 @@
 -- The promises, from what holds of every run with its history.
-use Rattle.std.proofs.Common.{◌≡◌, ℕ, suc, ◌+◌, ◌*◌, ◌<◌, ◌≤◌, true, List, [], ◌∷◌, length, get_or, sym, ap, ◌∙◌, subst, inl, inr, ⊎_elim, mul-le-mul_right, arith}
+use Rattle.std.proofs.Common.{◌≡◌, ℕ, ◌+◌, ◌*◌, ◌<◌, ◌≤◌, true, List, [], ◌∷◌, length, get_or, sym, ap, ◌∙◌, subst, inl, inr, ⊎_elim, arith, rules}
 use Rattle.std.proofs.lemmas.Bool.{cases_lt, cases_eq}
 use Rattle.std.proofs.lemmas.List.{length-map}
 use Rattle.theory.specs.Lists.{All}
@@ -72,7 +72,7 @@ module _ (x : Nature) (p : Plan) (planned : Planned p) (first : List ℕ) (h : H
 
   -- It has the task of the table.
   task_same : (i : ℕ) → i < length ts → (row_at rows i).task ≡ task_at ts i
-  task_same i hi = task_is ts rows a.held.kept.table i (in_rows i hi)
+  task_same i hi = search (rules, task_is, in_rows)
 
   -- The task is valid.
   valid : (i : ℕ) → i < length ts → Valid (task_at ts i)
@@ -84,7 +84,7 @@ module _ (x : Nature) (p : Plan) (planned : Planned p) (first : List ℕ) (h : H
 
   -- The first unfinished job's release, as the theory's row has it and as the history tells it.
   release_is : (i : ℕ) → i < length ts → get_or first i 0 + fin i * (row_at rows i).task.period ≡ release_of ts first i (fin i)
-  release_is i hi = ap (λ (y : Task). get_or first i 0 + fin i * y.period) (task_same i hi)
+  release_is i hi = grind (arith, task_same)
 
   -- The first unfinished job of a row that waits is still to be released.
   waits : (i : ℕ) → i < length ts → (row_at rows i).rem ≡ 0 → n < release_of ts first i (fin i)
@@ -116,7 +116,7 @@ module _ (x : Nature) (p : Plan) (planned : Planned p) (first : List ℕ) (h : H
 
   -- A later job of a row is released later.
   release_grows : (i j k : ℕ) → j ≤ k → release_of ts first i j ≤ release_of ts first i k
-  release_grows i j k le = omega (arith, mul-le-mul_right (task_at ts i).period le)
+  release_grows i j k le = grind arith
 
   -- No job is late.
   none_late : (i k : ℕ) → ¬ (Late ts first h i k)
@@ -124,15 +124,7 @@ module _ (x : Nature) (p : Plan) (planned : Planned p) (first : List ℕ) (h : H
 
   -- An unfinished job is the first of its row, and has units left.
   first_only : (i k : ℕ) → Unfinished ts first h i k → (k ≡ fin i) × (0 < (row_at rows i).rem)
-  first_only i k (hi, open', out) = (
-    ⊎_elim
-        (λ lt.
-        let v = valid i hi in
-        let more : release_of ts first i (suc (fin i)) ≤ release_of ts first i k = release_grows i (suc (fin i)) k (omega arith) in
-        absurd (omega (arith, first_due i hi, more, out, a.told, v.in_period)))
-        (λ le. omega (arith, open')) (cases_lt (fin i) k),
-    ⊎_elim (λ y. y) (λ none. absurd (omega (arith, waits i hi (omega arith), release_grows i (fin i) k open', out, a.told))) (cases_lt 0 (row_at rows i).rem),
-  )
+  first_only i k (hi, open', out) = search (rules, valid, release_grows, first_due, waits)
 
   -- While the unit rests or lags, no job is unfinished.
   none_asleep : 0 < now.unit.rest + now.unit.lag → (i k : ℕ) → ¬ (Unfinished ts first h i k)

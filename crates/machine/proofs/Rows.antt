@@ -1,7 +1,5 @@
 -- The theory's rows by place: their tasks, and a write at a place.
-use Rattle.std.proofs.Common.{◌≡◌, ℕ, zero, suc, ◌<◌, Bool, ◌≢◌, List, [], ◌∷◌, length, get_or, set, sym, refl, ap, ◌∙◌, subst, ⊎_elim, arith, length-set}
-use Rattle.std.proofs.lemmas.List.{get_or-set_same, get_or-set_other}
-use Rattle.std.proofs.lemmas.Bool.{cases_eq}
+use Rattle.std.proofs.Common.{◌≡◌, ℕ, zero, suc, ◌<◌, Bool, ◌≢◌, List, [], ◌∷◌, length, get_or, set, refl, ap, arith, rules}
 use Rattle.theory.specs.Lists.{All}
 use Rattle.theory.specs.Tasks.{Task, Valid, no_task}
 use Rattle.theory.specs.Ticks.{Row, given, serve, tasks, at_rest}
@@ -19,11 +17,7 @@ row_at rows k = get_or rows k no_row
 -- A fact of each row holds after a write of a row that has it.
 pub each_set : (P : ℕ → Row → Type 0) (rows : List Row) (i : ℕ) (v : Row) → P i v → ((k : ℕ) → k < length rows → k ≢ i → P k (row_at rows k)) →
     (k : ℕ) → k < length (set rows i v) → P k (row_at (set rows i v) k)
-each_set P rows i v here there k h =
-    let h' : k < length rows = omega (arith, length-set rows i v) in
-    ⊎_elim
-    (λ e. subst (λ (r : Row). P k r) (sym (ap (λ (m : ℕ). row_at (set rows m v) k) (sym e) ∙ get_or-set_same rows k v no_row h')) (subst (λ (m : ℕ). P m v) (sym e) here))
-    (λ e. subst (λ (r : Row). P k r) (sym (get_or-set_other rows i k v no_row e)) (there k h' e)) (cases_eq k i)
+each_set P rows i v here there k h = search rules
 
 -- A write that keeps the task of its row leaves the tasks as they are.
 pub tasks_set : (v : Row) (i : ℕ) (xs : List Row) → v.task ≡ (row_at xs i).task → tasks (set xs i v) ≡ tasks xs
@@ -39,7 +33,7 @@ task_get (r ∷ rows) (suc k) h = task_get rows k (omega arith)
 
 -- The row at a place has the task that the table has there.
 pub task_is : (ts : List Task) (rows : List Row) → tasks rows ≡ ts → (k : ℕ) → k < length rows → (row_at rows k).task ≡ task_at ts k
-task_is ts rows e k h = task_get rows k h ∙ ap (λ (l : List Task). task_at l k) e
+task_is ts rows e k h = grind (arith, task_get)
 
 -- Where every task is valid, so is that of the row at each place.
 pub valid_at : (rows : List Row) → All Valid (tasks rows) → (k : ℕ) → k < length rows → Valid (row_at rows k).task

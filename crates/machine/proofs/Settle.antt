@@ -23,7 +23,7 @@ use Rattle.machine.proofs.Records.{Lives, Kept}
 use Rattle.machine.proofs.Releases.{Stage, loosed}
 use Rattle.machine.proofs.Rows.{row_at, task_is}
 use Rattle.machine.proofs.Shape.{Shape, Chosen, shape_elect, none_active, one_active, waits_all}
-use Rattle.machine.proofs.Unit.{ahead, ready_is, ahead_ready, works_is}
+use Rattle.machine.proofs.Unit.{ahead, ready_is}
 
 -- The unit is at the admitted level f, or comes to it while no row has an unfinished job.
 pub record AtFull (f k n : ℕ) (rows : List Row) (v : Speed) : Type 0 where
@@ -34,10 +34,7 @@ pub record AtFull (f k n : ℕ) (rows : List Row) (v : Speed) : Type 0 where
 -- While a row has an unfinished job, a unit at the admitted level works.
 pub full_works : (f k n : ℕ) (rows : List Row) (v : Speed) → AtFull f k n rows v → (i : ℕ) → i < length rows → 0 < (row_at rows i).rem →
     (ahead k v.unit ≡ 0) × (works v.unit ≡ f)
-full_works f k n rows v a i hi some =
-    let z : ahead k v.unit ≡ 0 = ⊎_elim (λ b. absurd (omega (arith, (a.sound.quiet b i hi).0))) (λ b. omega arith) (cases_lt 0 (ahead k v.unit)) in
-    let w = ahead_ready k v.unit z in
-    (z, works_is v.unit w.0 w.1 ∙ a.asked)
+full_works f k n rows v a i hi some = grind arith
 
 -- The unit is slowed for a row whose job is alone: within the window its work is done, and the window ends early enough to raise the level again.
 pub record AtSlow (f r n : ℕ) (rows : List Row) (q : List Entry) (a : Option ℕ) (row : ℕ) (v : Speed) : Type 0 where
@@ -67,12 +64,7 @@ pub record Held (x : Nature) (p : Plan) (first : List ℕ) (c : ℕ → Tally) (
 
 -- Sound rows are sound for any other number of ticks without work, where they are quiet for so long.
 sound_quiet : (f n a b : ℕ) (rows : List Row) → (0 < b → (k : ℕ) → k < length rows → ((row_at rows k).rem ≡ 0) × (n + b ≤ (row_at rows k).next)) → Sound f n a rows → Sound f n b rows
-sound_quiet f n a b rows q s = record { valid = s.valid; coming = s.coming; inv = s.inv; quiet = q }
-
--- Sound rows are sound for fewer ticks without work.
-sound_less : (f n a b : ℕ) (rows : List Row) → b ≤ a → Sound f n a rows → Sound f n b rows
-sound_less f n a b rows le s =
-    sound_quiet f n a b rows (λ pos k h. let w = s.quiet (omega arith) k h in (w.0, omega (arith, w.1))) s
+sound_quiet f n a b rows q s = grind arith
 
 -- What holds where no level is enough, and of every level that is, holds of the lowest.
 enough_is : (w need : ℕ) (gs : List ℕ) (P : Option ℕ → Type 0) → P None → ((g : ℕ) → need ≤ g * w → P (Some g)) → P (enough_in w need gs)
@@ -103,7 +95,7 @@ module _ (x : Nature) (p : Plan) (l n a : ℕ) (first : List ℕ) (c : ℕ → T
 
   -- Where nothing is asked, the unit stays at the admitted level.
   stay : (s : Inner) (u : Meaning) → u.asked ≡ f → ahead x.wake u ≤ a → Stage f n a p.tasks first c s rows → After s (full u)
-  stay s u asked le g = inl (record { pace = refl; asked = asked; sound = sound_less f n a (ahead x.wake u) rows le g.sound })
+  stay s u asked le g = grind arith
 
   -- A rest ends before the first release, with the wake allowance.
   resting : (d q : List Entry) (js : List Job) (u : Meaning) → u.asked ≡ f → ahead x.wake u ≤ a → Chosen q None →

@@ -21,7 +21,7 @@ some_same i j e = cc
 
 -- No row is active, so this one is not.
 pub none_some : (i : ℕ) → ◌≡◌ {A = Option ℕ} None (Some i) → ⊥
-none_some i e = let z : ◌≡◌ {A = ℕ} 0 1 = cc in omega arith
+none_some i e = grind arith
 
 -- The row has no unfinished job, and its next release is at tick t.
 abbrev pub Waits : ℕ → Row → Type 0
@@ -172,12 +172,7 @@ shape_elect rows d (h ∷ q) (Some i) js s =
 
 -- Where none is active, no row has an unfinished job.
 pub none_active : (rows : List Row) (d q : List Entry) → Shape rows d q None → Chosen q None → (k : ℕ) → k < length rows → (row_at rows k).rem ≡ 0
-none_active rows d q s c k h = from (s.placed k h)
-  where
-    from : Placed d q None k (row_at rows k) → (row_at rows k).rem ≡ 0
-    from (inl (z, m)) = z
-    from (inr (p, inl eq)) = absurd (none_some k eq)
-    from (inr (p, inr m)) = absurd (subst (λ (l : List Entry). Any (λ e. e.row ≡ k) l) c m)
+none_active rows d q s c k h = grind arith
 
 -- No row before the active one has an unfinished job.
 pub before_active : (rows : List Row) (d q : List Entry) (i : ℕ) → Shape rows d q (Some i) → Chosen q (Some i) → (k : ℕ) → k < i → (row_at rows k).rem ≡ 0
@@ -190,12 +185,7 @@ before_active rows d q i s c k lt = from (s.placed k (omega (arith, (s.acting i 
 
 -- With an empty run queue, no row but the active one has an unfinished job.
 pub one_active : (rows : List Row) (d : List Entry) (i : ℕ) → Shape rows d [] (Some i) → (k : ℕ) → k < length rows → k ≢ i → (row_at rows k).rem ≡ 0
-one_active rows d i s k h ne = from (s.placed k h)
-  where
-    from : Placed d [] (Some i) k (row_at rows k) → (row_at rows k).rem ≡ 0
-    from (inl (z, m)) = z
-    from (inr (p, inl eq)) = absurd (ne (sym (some_same i k eq)))
-    from (inr (p, inr m)) = absurd m
+one_active rows d i s k h ne = grind arith
 
 -- What holds of every key of the delay queue holds of the next release of each row that waits.
 pub waits_all : (rows : List Row) (d q : List Entry) (a : Option ℕ) (P : ℕ → Type 0) → Shape rows d q a → All (λ e. P e.key) d →

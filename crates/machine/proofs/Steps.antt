@@ -1,7 +1,7 @@
 -- A tick in which the active row runs: what holds goes on holding.
-use Rattle.std.proofs.Common.{◌≡◌, ℕ, suc, ◌+◌, ◌-◌, ◌*◌, ◌<◌, ◌≤◌, min, Bool, true, false, cond, ◌||◌, ◌≢◌, List, [], ◌∷◌, length, get_or, set, Some, None, Option, sym, refl, ap, ◌∙◌, subst, inr, ⊎_elim, arith, nat_le, ◌==◌}
+use Rattle.std.proofs.Common.{◌≡◌, ℕ, suc, ◌+◌, ◌-◌, ◌*◌, ◌<◌, ◌≤◌, min, Bool, true, false, cond, ◌||◌, ◌≢◌, List, [], ◌∷◌, length, get_or, set, Some, None, Option, sym, refl, ap, ◌∙◌, subst, inr, ⊎_elim, arith, nat_le, ◌==◌, rules}
 use Rattle.std.proofs.lemmas.List.{get_or-set_same}
-use Rattle.std.proofs.lemmas.Bool.{cases_lt, cond_both, cond-true, cond-false, lt-leb, eqb-true, eqb-false, eq-eqb, ne_eqb, or_parts}
+use Rattle.std.proofs.lemmas.Bool.{cases_lt, cond_both, cond-true, cond-false, lt-leb, eqb-true, eq-eqb}
 use Rattle.queue.specs.declared.Entry.{Entry}
 use Rattle.queue.specs.Entries.{sooner}
 use Rattle.queue.specs.Order.{ordered}
@@ -17,7 +17,7 @@ use Rattle.machine.specs.declared.job.Pace.TheVariants.{Full, Slowed, Over}
 use Rattle.machine.specs.declared.word.Reply.TheVariants.{Ran}
 use Rattle.machine.specs.declared.word.Word.{Word}
 use Rattle.machine.specs.History.{Tally, History, gets, count, says_ended}
-use Rattle.machine.specs.Inner.{given_more, Inner, in_line, no_job, job_at, new_job, give, finish, released, release_due, elected, elect}
+use Rattle.machine.specs.Inner.{Inner, in_line, job_at, new_job, give, finish, released, release_due, elect}
 use Rattle.machine.specs.Machine.{Now, Lags, Within, pass, outcome_of, pace_after, run_row}
 use Rattle.machine.specs.Plans.{Plan, Planned, task_at}
 use Rattle.machine.proofs.Give.{shape_on, shape_end}
@@ -40,34 +40,21 @@ released_none ts n (e ∷ es) q a js h =
 
 -- Where the run queue is empty, there is nothing to choose.
 elect_none : (s : Inner) → s.queue ≡ [] → elect s ≡ s
-elect_none s e = subst (λ (y : List Entry). elected y s.active s ≡ s) (sym e) refl
+elect_none s e = grind arith
 
 -- What the history tells of a row whose job is finished.
 told_end : (t : Task) (said : Bool) (m g : ℕ) (c : Tally) → c.units ≡ g → (said || g + m == t.work) ≡ true →
     gets t said m c ≡ record { finished = suc c.finished; units = 0 }
-told_end t said m g c e h =
-    cond-true (said || c.units + m == t.work) (record { finished = suc c.finished; units = 0 }) (record { finished = c.finished; units = c.units + m })
-    (subst (λ (y : ℕ). (said || y + m == t.work) ≡ true) (sym e) h)
+told_end t said m g c e h = grind arith
 
 -- What the history tells of a row whose job goes on.
 told_on : (t : Task) (said : Bool) (m g : ℕ) (c : Tally) → c.units ≡ g → (said || g + m == t.work) ≡ false →
     gets t said m c ≡ record { finished = c.finished; units = c.units + m }
-told_on t said m g c e h =
-    cond-false (said || c.units + m == t.work) (record { finished = suc c.finished; units = 0 }) (record { finished = c.finished; units = c.units + m })
-    (subst (λ (y : ℕ). (said || y + m == t.work) ≡ false) (sym e) h)
-
--- A finished job has nothing left.
-nothing_left : (lv : ℕ) (said : Bool) (g w rem : ℕ) → rem + g ≡ w → (said || g + min lv (w - g) == w) ≡ true → cond said 0 (rem - lv) ≡ 0
-nothing_left lv true g w rem e h = refl
-nothing_left lv false g w rem e h = omega (arith, eqb-true (g + min lv (w - g)) w h)
+told_on t said m g c e h = grind arith
 
 -- A job that goes on was given the whole level, and has more left.
 more_left : (lv : ℕ) (said : Bool) (g w rem : ℕ) → rem + g ≡ w → (said || g + min lv (w - g) == w) ≡ false → (said ≡ false) × (min lv (w - g) ≡ lv) × (lv < rem)
-more_left lv said g w rem e h =
-    let parts = or_parts said (g + min lv (w - g) == w) h in
-    let ne = eqb-false (g + min lv (w - g)) w parts.1 in
-    let lt : lv < rem = ⊎_elim (λ y. y) (λ y. absurd (ne (omega arith))) (cases_lt lv rem) in
-    (parts.0, omega arith, lt)
+more_left lv said g w rem e h = grind arith
 
 module _ (x : Nature) (p : Plan) (planned : Planned p) (takes : x.takes p.admitted ≡ true) (first : List ℕ) (l : Lags)
     (within : Within x l) (word : Word) (h : History) (n : ℕ) (told : n ≡ count h) (u : Meaning)
@@ -121,19 +108,19 @@ module _ (x : Nature) (p : Plan) (planned : Planned p) (takes : x.takes p.admitt
 
   -- The job of the active row is unfinished.
   live : Lives (get_or first i 0) (tallies p h i) (job_at js i) r
-  live = (kept.fits i hi).lives pos
+  live = grind (arith, pos)
 
   -- What is left and what was given are the work of the task.
   work_is : r.rem + g ≡ t.work
-  work_is = live.left ∙ ap (λ (y : Task). y.work) (task_is ts rows kept.table i hi)
+  work_is = grind (arith, task_is)
 
   -- The history tells the same of the other rows.
   others : (k : ℕ) → k ≢ i → tallies p h' k ≡ tallies p h k
-  others k ne = cond-false (suc i == suc k) (gets (task_at ts k) said m (tallies p h k)) (tallies p h k) (ne_eqb (suc i) (suc k) (λ e. ne (omega arith)))
+  others k ne = grind arith
 
   -- The history tells of the active row that it got its units.
   mine : tallies p h' i ≡ gets t said m (tallies p h i)
-  mine = cond-true (suc i == suc i) (gets t said m (tallies p h i)) (tallies p h i) (eq-eqb (suc i) (suc i) refl)
+  mine = grind arith
 
   -- Where the job goes on, it was not said to have ended, got the whole level, and has more left.
   on_facts : (said || whole) ≡ false → (said ≡ false) × (m ≡ lv) × (lv < r.rem)
@@ -141,11 +128,11 @@ module _ (x : Nature) (p : Plan) (planned : Planned p) (takes : x.takes p.admitt
 
   -- Where the job goes on, so much is left.
   on_left : (said || whole) ≡ false → v.rem ≡ r.rem - lv
-  on_left e = cond-false said 0 (r.rem - lv) (on_facts e).0
+  on_left e = grind arith
 
   -- Where the job is finished, nothing is left.
   end_left : (said || whole) ≡ true → v.rem ≡ 0
-  end_left e = nothing_left lv said g t.work r.rem work_is e
+  end_left e = grind (arith, work_is)
 
   -- Where the job goes on, the queues hold what they should.
   on_shape : (said || whole) ≡ false → Shape rows' d q (Some i)
@@ -159,13 +146,11 @@ module _ (x : Nature) (p : Plan) (planned : Planned p) (takes : x.takes p.admitt
 
   -- The next release of the row is the one in its record.
   end_next : v.next ≡ (job_at (give i m s).jobs i).next
-  end_next =
-      let same_job = get_or-set_same js i (given_more m (job_at js i)) no_job (omega (arith, kept.size, hi)) in
-      live.next ∙ ap (λ (y : Job). y.next) (sym same_job)
+  end_next = search rules
 
   -- Where the job is finished, the queues hold what they should.
   end_shape : (said || whole) ≡ true → Shape rows' (finish i (give i m s)).delay q None
-  end_shape e = shape_end rows d q i v shape (end_left e) (job_at (give i m s).jobs i).next end_next
+  end_shape e = search (rules, shape_end, end_left, end_next)
 
   -- Where the job is finished, the records fit.
   end_kept : (said || whole) ≡ true → Kept ts first (tallies p h') (finish i (give i m s)).jobs rows'

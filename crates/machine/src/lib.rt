@@ -11,11 +11,9 @@ pub mod word;
 // jobs are unfinished the unit works at the admitted level; while it rests or lags none is unfinished; and the count is that of the words taken.
 pub fn every_run_is_lawful()
     ensures { EveryRunIsLawful }
-{
-}
+{}
 
 // A theorem: the run makes an ask or a rest where the unit would not refuse it, and nowhere else.
 pub fn made_where_taken()
     ensures { MadeWhereTaken }
-{
-}
+{}
