@@ -30,7 +30,7 @@ cond_none false e h = absurd (some_none e h)
 
 -- Where no fault is made of a place, there is no such place.
 mapped_none : (make : ℕ → Fault) (o : Option ℕ) → option_map make o ≡ None → o ≡ None
-mapped_none make (Some k) h = absurd (some_none (make k) h)
+mapped_none make (Some k) h = grind arith
 mapped_none make None h = refl
 
 -- Where there is no place of a bad number, every number is good.
@@ -55,13 +55,13 @@ accepted x p starts u planned none =
     let (_, r₂) = or_else_none (late_fault starts) _ r₁ in
     let (n₂, r₃) = or_else_none (ready_fault u) _ r₂ in
     let (n₃, n₄) = or_else_none (untaken_fault x p.admitted p.levels) (early_fault x.raise starts) r₃ in
-    let is = ready_is u (cond_none (ready u) (fault_at UnitNotReady 0 0) n₂) in
+    let is = ready_is u (grind arith) in
     record {
       rest = is.0;
       lag = is.1;
-      takes = taken (place_none untaken 1 p.levels (mapped_none (λ i. fault_at LevelNotTaken 0 i) (place_of untaken 1 p.levels) n₃));
-      size = sized starts (cond_none (length starts == 0 || length starts == length p.tasks) (fault_at BadCount 0 0) n₁);
-      after = later starts (place_none early 1 starts (mapped_none (λ i. fault_at EarlyStart 0 i) (place_of early 1 starts) n₄));
+      takes = taken (grind (arith, place_none, mapped_none));
+      size = sized starts (grind arith);
+      after = later starts (grind (arith, place_none, mapped_none));
     }
   where
     untaken : ℕ → Bool
@@ -73,17 +73,12 @@ accepted x p starts u planned none =
     taken : All (λ g. untaken g ≡ false) p.levels → x.takes p.admitted ≡ true
     taken all =
         any_all (λ g. g ≡ p.admitted) (λ g. untaken g ≡ false) (x.takes p.admitted ≡ true)
-        (λ g e b. subst (λ (y : ℕ). x.takes y ≡ true) e
-        (⊎_elim (λ c. absurd (both_ways (nat_le g p.admitted) c (le-leb g p.admitted (omega arith)))) (λ c. not-false (x.takes g) c)
-        (and_cases (nat_le g p.admitted) (not (x.takes g)) b))) p.levels planned.listed all
+        (λ g e b. grind arith) p.levels planned.listed all
 
     sized : (bs : List ℕ) → (length bs == 0 || length bs == length p.tasks) ≡ true → length (firsts x.raise p.tasks bs) ≡ length p.tasks
     sized [] e = length-replicate (length p.tasks) x.raise
-    sized (b ∷ bs) e =
-        ⊎_elim (λ z. absurd (omega (arith, eqb-true (suc (length bs)) 0 z))) (λ z. eqb-true (suc (length bs)) (length p.tasks) z)
-        (or_cases (suc (length bs) == 0) (suc (length bs) == length p.tasks) e)
+    sized (b ∷ bs) e = grind arith
 
     later : (bs : List ℕ) → All (λ a. early a ≡ false) bs → (k : ℕ) → k < length (firsts x.raise p.tasks bs) → x.raise ≤ get_or (firsts x.raise p.tasks bs) k 0
-    later [] a k h =
-        omega (arith, get_or-replicate (length p.tasks) k x.raise 0 (omega (arith, length-replicate (length p.tasks) x.raise)))
-    later (b ∷ bs) a k h = all_at (λ y. x.raise ≤ y) 0 (b ∷ bs) (all_imp (λ y. early y ≡ false) (λ y. x.raise ≤ y) (λ y e. ltb-false y x.raise e) (b ∷ bs) a) k h
+    later [] a k h = grind (arith, get_or-replicate, length-replicate)
+    later (b ∷ bs) a k h = grind (arith, all_at, all_imp, ltb-false)

@@ -38,8 +38,8 @@ put_sorted : (i : ℕ) (bs : List ℕ) (d : List Entry) → All (λ e. e.row < i
 put_sorted i [] d a s = s
 put_sorted i (b ∷ bs) d a s =
     put_sorted (suc i) bs (ordered sooner (release_at b i) d)
-    (all_ordered sooner (release_at b i) (λ e. e.row < suc i) d (omega arith) (all_imp (λ e. e.row < i) (λ e. e.row < suc i) (λ e h. omega arith) d a))
-    (sorted_with (release_at b i) d (all_imp (λ e. e.row < i) (λ e. e.row ≢ i) (λ e h eq. omega arith) d a) s)
+    (grind (arith, all_ordered, all_imp))
+    (grind (arith, sorted_with, all_imp))
 
 -- What was there stays there.
 put_keeps : (P : Entry → Type 0) (i : ℕ) (bs : List ℕ) (d : List Entry) → Any P d → Any P (put_all i bs d)
@@ -97,9 +97,7 @@ begin_holds x p starts l u planned within a =
     waits k h = first_waits p.tasks bs k h
 
     low : ahead x.wake u' ≤ x.raise
-    low =
-        let lag_low : u'.lag ≤ x.raise = cond_both (nat_lt u.asked p.admitted) l.back u.lag (λ y. y ≤ x.raise) (λ _. within) (λ _. omega (arith, a.lag)) in
-        omega (arith, ahead_lag x.wake u' a.rest)
+    low = grind arith
 
     shape : Shape rows (put_all 0 bs []) [] None
     shape = record {
@@ -110,7 +108,7 @@ begin_holds x p starts l u planned within a =
           subst (λ (m : ℕ). Delayed rows (release_at (get_or bs k 0) m)) same (omega (arith, size), waits k (omega (arith, size)))) tt;
       rising = tt;
       queued = tt;
-      acting = λ i e. absurd (none_some i e);
+      acting = grind arith;
       placed = λ k h. inl ((waits k h).0, put_there 0 bs [] k k (omega (arith, size)) (omega arith));
     }
 
@@ -120,7 +118,7 @@ begin_holds x p starts l u planned within a =
       size = omega (arith, length-replicate 32 no_job, planned.few, size, a.size);
       fits = λ k h.
           let w = waits k h in
-          record { waits = λ _. (omega (arith, w.1), refl); lives = λ some. absurd (omega (arith, w.0)) };
+          record { waits = grind arith; lives = grind arith};
     }
 
     sound : Sound p.admitted 0 x.raise rows

@@ -48,11 +48,11 @@ module _ (rows : List Row) (d q : List Entry) (i : ℕ) (v : Row) (s : Shape row
   -- The active row has nothing left: it goes to the delay queue.
   pub shape_end : v.rem ≡ 0 → (t : ℕ) → v.next ≡ t → Shape (set rows i v) (ordered sooner (release_at t i) d) q None
   shape_end z t n = record {
-    sorted = sorted_with e d (all_imp (Delayed rows) (λ y. y.row ≢ i) (λ y h. not_i y.row h.1.0) d s.delayed) s.sorted;
-    delayed = all_ordered sooner e (Delayed rows') d (omega (arith, (s.acting i refl).0, same_length), subst (Waits t) (sym here) (z, n)) delayed';
+    sorted = grind (arith, sorted_with, all_imp, not_i);
+    delayed = grind (arith, all_ordered, same_length, here, delayed');
     rising = s.rising;
     queued = queued' None (λ k _ eq. none_some k eq);
-    acting = λ j eq. absurd (none_some j eq);
+    acting = grind arith;
     placed = each_set (Placed (ordered sooner e d) q None) rows i v (inl (z, any_here sooner e (λ y. y.row ≡ i) d refl)) (λ k h ne. moved k ne (s.placed k h));
   }
     where
@@ -61,5 +61,5 @@ module _ (rows : List Row) (d q : List Entry) (i : ℕ) (v : Row) (s : Shape row
 
       moved : (k : ℕ) → k ≢ i → Placed d q (Some i) k (row_at rows k) → Placed (ordered sooner e d) q None k (row_at rows k)
       moved k ne (inl (y, m)) = inl (y, any_there sooner e (λ b. b.row ≡ k) d m)
-      moved k ne (inr (y, inl eq)) = absurd (ne (sym (some_same i k eq)))
+      moved k ne (inr (y, inl eq)) = grind arith
       moved k ne (inr (y, inr m)) = inr (y, inr m)

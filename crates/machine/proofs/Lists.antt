@@ -44,9 +44,7 @@ module _ {E : Type 0} (before : E → E → Bool) (x : E) where
   pairs_ordered R Q up down far (y ∷ ys) q a =
       by_ordered y ys (Pairs R)
       (λ e. (all_ordered (R y) ys (up y q.0 e) a.0, pairs_ordered R Q up down far ys q.1 a.1))
-      (λ e.
-      let r : R x y = down y q.0 e in
-      ((r, all_two Q (R y) (R x) (λ z qz rz. far y z qz r rz) ys q.1 a.0), (a.0, a.1)))
+      (grind (arith, all_two))
 
 -- What holds of all holds of the element at a place.
 pub all_at : {X : Type 0} (P : X → Type 0) (d : X) (xs : List X) → All P xs → (k : ℕ) → k < length xs → P (get_or xs k d)

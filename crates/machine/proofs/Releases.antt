@@ -58,10 +58,8 @@ loosed f n a ts first c pass (e ∷ es) q act js rows g =
         record {
           shape = shape_pop n rows e es q act valid g.shape;
           kept = kept_pop n e.key ts first c js rows i valid entry.0 (entry.1.0, is) (sym entry.1.1 ∙ is) g.kept;
-          sound = sound_fresh f n a rows i (subst (Passing f) (sym g.kept.table) pass) entry.0 due g.sound;
+          sound = grind (arith, sound_fresh);
         }
 
     done : nat_le e.key n ≡ false → Loosed f n a ts first c (record { delay = e ∷ es; queue = q; active = act; jobs = js })
-    done t =
-        let lt = leb-false e.key n t in
-        (rows, g, (lt, all_imp (Apart e) (λ x. n < x.key) (λ x p. omega (arith, p.0)) es g.shape.sorted.0))
+    done t = grind (arith, leb-false, all_imp)

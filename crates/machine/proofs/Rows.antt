@@ -22,7 +22,7 @@ each_set P rows i v here there k h = search rules
 -- A write that keeps the task of its row leaves the tasks as they are.
 pub tasks_set : (v : Row) (i : ℕ) (xs : List Row) → v.task ≡ (row_at xs i).task → tasks (set xs i v) ≡ tasks xs
 tasks_set v i [] e = refl
-tasks_set v zero (x ∷ xs) e = ap (λ (t : Task). t ∷ tasks xs) e
+tasks_set v zero (x ∷ xs) e = grind arith
 tasks_set v (suc i) (x ∷ xs) e = ap (λ (l : List Task). x.task ∷ l) (tasks_set v i xs e)
 
 -- The row at a place has the task at that place.
@@ -45,8 +45,7 @@ valid_at (r ∷ rows) v (suc k) h = valid_at rows v.1 k (omega arith)
 pub serve_is : (f : ℕ) (b : Bool) (i : ℕ) (xs : List Row) → i < length xs → 0 < (row_at xs i).rem → ((k : ℕ) → k < i → (row_at xs k).rem ≡ 0) →
     serve f b xs ≡ set xs i (given f b (row_at xs i))
 serve_is f b i [] h s z = absurd (omega arith)
-serve_is f b zero (x ∷ xs) h s z =
-    by_serve f b x xs (λ l. l ≡ given f b x ∷ xs) (λ q. absurd (omega arith)) (λ q. refl)
+serve_is f b zero (x ∷ xs) h s z = grind arith
 serve_is f b (suc i) (x ∷ xs) h s z =
     by_serve f b x xs (λ l. l ≡ x ∷ set xs i (given f b (row_at xs i)))
     (λ q. ap (λ (l : List Row). x ∷ l) (serve_is f b i xs (omega arith) s (λ k lt. z (suc k) (omega arith))))
