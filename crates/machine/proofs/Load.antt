@@ -43,7 +43,7 @@ pub sound_anew : (f n a : ℕ) (rows : List Row) → Passing f (tasks rows) → 
     ((k : ℕ) → k < length rows → ((row_at rows k).rem ≡ 0) × (n + a ≤ (row_at rows k).next)) → Sound f n a rows
 sound_anew f n a rows p v z = record {
   valid = v;
-  coming = λ k h. omega (arith, (z k h).1);
+  coming = grind arith;
   inv = λ k h. anew f n k rows p.0 (all_good n rows v (λ j b. omega (arith, (z j b).1))) (passing_at f k rows p h)
       (none_left f (suc k) rows p.0 (λ j b. (z j b).0));
   quiet = λ _. z;
@@ -62,7 +62,7 @@ sound_fresh f n a rows i p hi due s = record {
   valid = each_set (λ _ r. Valid r.task) rows i v (s.valid i hi) (λ k h _. s.valid k h);
   coming = each_set (λ _ r. n ≤ r.next) rows i v (omega arith) (λ k h _. s.coming k h);
   inv = λ k h. moved k (s.inv k (omega (arith, length-set rows i v)));
-  quiet = λ pos. absurd (omega (arith, (s.quiet pos i hi).1));
+  quiet = grind arith;
 }
   where
     r : Row
@@ -75,7 +75,7 @@ sound_fresh f n a rows i p hi due s = record {
     next_is = omega (arith, s.coming i hi)
 
     same : released n r ≡ v
-    same = cond-true (r.next == n) (fresh n r) r (eq-eqb r.next n next_is)
+    same = grind arith
 
     moved : (k : ℕ) → Inv f n k rows → Inv f n k (set rows i v)
     moved k (e, before, fits, aims) = (
@@ -95,7 +95,7 @@ sound_serve f b n a rows i p hi some first later s = record {
   inv = λ k h.
       let h' : k < length rows = omega (arith, length-set rows i v) in
       subst (Inv f (suc n) k) (serve_is f b i rows hi some first)
-      (inv_serve f b n k rows p.0 (all_good (suc n) rows s.valid later) (passing_at f k rows p h') (s.inv k h'));
+      (grind (arith, inv_serve, all_good, passing_at));
   quiet = λ pos. absurd (omega arith);
 }
   where

@@ -32,21 +32,14 @@ record Runs (x : Nature) (p : Plan) (starts : List ℕ) (h : History) (now : Now
 
 -- Every history that an accepted begin can lead to is one of such a run.
 reach_holds : (x : Nature) (p : Plan) (starts : List ℕ) (u : Meaning) (h : History) (now : Now) → Reached x p starts u h now → Runs x p starts h now
-reach_holds x p starts u [] now began =
-    let a = accepted x p starts u began.planned began.accepted in
-    record {
-      planned = began.planned;
-      takes = a.takes;
-      holds = subst (λ (y : Now). Holds x p (firsts x.raise p.tasks starts) [] y) began.is
-          (begin_holds x p starts began.lags u began.planned began.within.back a);
-    }
+reach_holds x p starts u [] now began = grind (arith, accepted, begin_holds)
 reach_holds x p starts u (e ∷ h) now (before, reached, said) =
     let a = reach_holds x p starts u h before reached in
     record {
       planned = a.planned;
       takes = a.takes;
       holds = subst (λ (y : Result). Holds x p (firsts x.raise p.tasks starts) (record { word = e.word; reply = y.reply } ∷ h) y.now) said.is
-          (step_holds x p a.planned a.takes (firsts x.raise p.tasks starts) said.lags said.within e.word h before a.holds);
+          (grind (arith, step_holds));
     }
 
 module _ (x : Nature) (p : Plan) (planned : Planned p) (first : List ℕ) (h : History) (now : Now) (a : Holds x p first h now) where
@@ -68,7 +61,7 @@ module _ (x : Nature) (p : Plan) (planned : Planned p) (first : List ℕ) (h : H
 
   -- Each row of the table is one of the rows.
   in_rows : (i : ℕ) → i < length ts → i < length rows
-  in_rows i hi = omega (arith, length-map rows (λ r. r.task), ap length a.held.kept.table)
+  in_rows i hi = grind (arith, length-map)
 
   -- It has the task of the table.
   task_same : (i : ℕ) → i < length ts → (row_at rows i).task ≡ task_at ts i
@@ -76,7 +69,7 @@ module _ (x : Nature) (p : Plan) (planned : Planned p) (first : List ℕ) (h : H
 
   -- The task is valid.
   valid : (i : ℕ) → i < length ts → Valid (task_at ts i)
-  valid i hi = subst Valid (task_same i hi) (valid_at rows (subst (All Valid) (sym a.held.kept.table) planned.valid) i (in_rows i hi))
+  valid i hi = subst Valid (task_same i hi) (valid_at rows (grind arith) i (in_rows i hi))
 
   -- The record of a row fits.
   fits : (i : ℕ) → i < length ts → Fits (get_or first i 0) (tallies p h i) (job_at a.s.jobs i) (row_at rows i)
@@ -98,11 +91,7 @@ module _ (x : Nature) (p : Plan) (planned : Planned p) (first : List ℕ) (h : H
       by (inl m) = sound_due p.admitted n (ahead x.wake now.unit) rows m.sound i (in_rows i hi) some
       by (inr (j, m)) =
           ⊎_elim
-          (λ e. subst (λ (k : ℕ). n < (row_at rows k).due) (sym e)
-          (⊎_elim (λ w. omega (arith, m.due, w))
-          (λ w.
-          let z : m.window ≡ 0 = omega (arith, w) in
-          absurd (omega (arith, m.enough, some, ap (λ (k : ℕ). (row_at rows k).rem) e, ap (λ (k : ℕ). now.unit.asked * k) z))) (cases_lt 0 m.window)))
+          (λ e. grind arith)
           (λ ne. absurd (omega (arith, some, (m.others i (in_rows i hi) ne).0))) (cases_eq i j)
 
   -- The first unfinished job of a row is not late, as the history tells.
@@ -120,7 +109,7 @@ module _ (x : Nature) (p : Plan) (planned : Planned p) (first : List ℕ) (h : H
 
   -- No job is late.
   none_late : (i k : ℕ) → ¬ (Late ts first h i k)
-  none_late i k ((hi, open', out), late) = omega (arith, first_due i hi, release_grows i (fin i) k open', a.told, late)
+  none_late i k ((hi, open', out), late) = grind (arith, first_due, release_grows)
 
   -- An unfinished job is the first of its row, and has units left.
   first_only : (i k : ℕ) → Unfinished ts first h i k → (k ≡ fin i) × (0 < (row_at rows i).rem)
@@ -164,5 +153,5 @@ every_run_is_lawful x p starts u h now reached =
       on_time = none_late x p r.planned first h now r.holds;
       full = two_at_full x p r.planned first h now r.holds;
       idle = none_asleep x p r.planned first h now r.holds;
-      counted = ap (λ (s : State). s.count) r.holds.is ∙ r.holds.told;
+      counted = grind arith;
     }

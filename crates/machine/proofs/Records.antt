@@ -45,21 +45,7 @@ pub kept_pop : (n t : ℕ) (ts : List Task) (first : List ℕ) (c : ℕ → Tall
     Kept ts first c (set js i (new_job (task_at ts i) t)) (set rows i (fresh n (row_at rows i)))
 kept_pop n t ts first c js rows i valid hi w tn kept =
     kept_set ts first c c js rows i (new_job (task_at ts i) t) (fresh n (row_at rows i)) (λ _ _. refl) refl
-    (let held = (kept.fits i hi).waits w.0 in
-    let is = task_is ts rows kept.table i hi in
-    let same_due = ap (λ (y : Task). y.deadline) is in
-    let same_next = ap (λ (y : Task). y.period) is in
-    record {
-      waits = λ z. absurd (omega arith);
-      lives = λ _. record {
-        left = omega arith;
-        due = omega arith;
-        next = omega arith;
-        due_is = omega (arith, w.1, held.0);
-        next_is = omega (arith, w.1, held.0);
-        units = held.1;
-      };
-    })
+    (grind (arith, task_is))
     kept
 
 module _ (ts : List Task) (first : List ℕ) (c c' : ℕ → Tally) (js : List Job) (rows : List Row) (i m lv : ℕ) (said : Bool)
@@ -85,18 +71,7 @@ module _ (ts : List Task) (first : List ℕ) (c c' : ℕ → Tally) (js : List J
       let old = live in
       let left : v.rem ≡ r.rem - lv = cond-false said 0 (r.rem - lv) es in
       kept_set ts first c c' js rows i j v others refl
-      (subst (λ (y : Tally). Fits (get_or first i 0) y j v) (sym told)
-      (record {
-        waits = λ z. absurd (omega arith);
-        lives = λ _. record {
-          left = omega arith;
-          due = old.due;
-          next = old.next;
-          due_is = old.due_is;
-          next_is = old.next_is;
-          units = omega arith;
-        };
-      }))
+      (grind arith)
       kept
 
   -- The end of a job keeps the records.
@@ -105,5 +80,5 @@ module _ (ts : List Task) (first : List ℕ) (c c' : ℕ → Tally) (js : List J
       let old = live in
       kept_set ts first c c' js rows i j v others refl
       (subst (λ (y : Tally). Fits (get_or first i 0) y j v) (sym told)
-      (record { waits = λ _. (omega arith, refl); lives = λ some. absurd (omega arith) }))
+      (grind arith))
       kept
