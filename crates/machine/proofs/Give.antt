@@ -51,7 +51,7 @@ module _ (rows : List Row) (d q : List Entry) (i : ℕ) (v : Row) (s : Shape row
     sorted = grind (arith, sorted_with, all_imp, not_i);
     delayed = grind (arith, all_ordered, same_length, here, delayed');
     rising = s.rising;
-    queued = queued' None (λ k _ eq. none_some k eq);
+    queued = queued' None (grind arith);
     acting = grind arith;
     placed = each_set (Placed (ordered sooner e d) q None) rows i v (inl (z, any_here sooner e (λ y. y.row ≡ i) d refl)) (λ k h ne. moved k ne (s.placed k h));
   }
@@ -60,6 +60,4 @@ module _ (rows : List Row) (d q : List Entry) (i : ℕ) (v : Row) (s : Shape row
       e = release_at t i
 
       moved : (k : ℕ) → k ≢ i → Placed d q (Some i) k (row_at rows k) → Placed (ordered sooner e d) q None k (row_at rows k)
-      moved k ne (inl (y, m)) = inl (y, any_there sooner e (λ b. b.row ≡ k) d m)
-      moved k ne (inr (y, inl eq)) = grind arith
-      moved k ne (inr (y, inr m)) = inr (y, inr m)
+      moved k ne p = grind (arith, any_there)

@@ -89,19 +89,12 @@ module _ (x : Nature) (p : Plan) (planned : Planned p) (first : List ℕ) (h : H
     where
       by : Mode p.admitted x.raise x.wake n rows a.s speed → n < (row_at rows i).due
       by (inl m) = sound_due p.admitted n (ahead x.wake now.unit) rows m.sound i (in_rows i hi) some
-      by (inr (j, m)) =
-          ⊎_elim
-          (λ e. grind arith)
-          (λ ne. absurd (omega (arith, some, (m.others i (in_rows i hi) ne).0))) (cases_eq i j)
+      by (inr (j, m)) = ⊎_elim (λ e. grind arith) (λ ne. absurd (omega (arith, some, (m.others i (in_rows i hi) ne).0))) (cases_eq i j)
 
   -- The first unfinished job of a row is not late, as the history tells.
   first_due : (i : ℕ) → i < length ts → n < release_of ts first i (fin i) + (task_at ts i).deadline
   first_due i hi =
-      ⊎_elim
-      (λ some.
-      let live = (fits i hi).lives some in
-      omega (arith, due_later i hi some, release_is i hi, ap (λ (y : Task). y.deadline) (task_same i hi)))
-      (λ none. omega (arith, waits i hi (omega arith))) (cases_lt 0 (row_at rows i).rem)
+      grind (arith, fits i hi, due_later i hi, release_is i hi, task_same i hi, waits i hi)
 
   -- A later job of a row is released later.
   release_grows : (i j k : ℕ) → j ≤ k → release_of ts first i j ≤ release_of ts first i k
@@ -122,8 +115,7 @@ module _ (x : Nature) (p : Plan) (planned : Planned p) (first : List ℕ) (h : H
       by : Mode p.admitted x.raise x.wake n rows a.s speed → ⊥
       by (inl m) =
           let some = (first_only i k (hi, open', out)).1 in
-          let z = ahead_ready x.wake now.unit (full_works p.admitted x.wake n rows speed m i (in_rows i hi) some).0 in
-          omega (arith, z.0, z.1)
+          let z = (full_works p.admitted x.wake n rows speed m i (in_rows i hi) some).0 in grind arith
       by (inr (j, m)) = omega (arith, m.rest, m.lag)
 
   -- While two jobs are unfinished, the unit works at the admitted level.

@@ -44,9 +44,7 @@ pub kept_pop : (n t : ℕ) (ts : List Task) (first : List ℕ) (c : ℕ → Tall
     Waits n (row_at rows i) → t ≡ n → Kept ts first c js rows →
     Kept ts first c (set js i (new_job (task_at ts i) t)) (set rows i (fresh n (row_at rows i)))
 kept_pop n t ts first c js rows i valid hi w tn kept =
-    kept_set ts first c c js rows i (new_job (task_at ts i) t) (fresh n (row_at rows i)) (λ _ _. refl) refl
-    (grind (arith, task_is))
-    kept
+    kept_set ts first c c js rows i (new_job (task_at ts i) t) (fresh n (row_at rows i)) (λ _ _. refl) refl (grind (arith, task_is)) kept
 
 module _ (ts : List Task) (first : List ℕ) (c c' : ℕ → Tally) (js : List Job) (rows : List Row) (i m lv : ℕ) (said : Bool)
     (kept : Kept ts first c js rows) (hi : i < length rows) (pos : 0 < (row_at rows i).rem) (others : (k : ℕ) → k ≢ i → c' k ≡ c k) where
@@ -69,16 +67,10 @@ module _ (ts : List Task) (first : List ℕ) (c c' : ℕ → Tally) (js : List J
       Kept ts first c' (set js i j) (set rows i v)
   kept_on em es more told =
       let old = live in
-      let left : v.rem ≡ r.rem - lv = cond-false said 0 (r.rem - lv) es in
-      kept_set ts first c c' js rows i j v others refl
-      (grind arith)
-      kept
+      let left : v.rem ≡ r.rem - lv = grind arith in kept_set ts first c c' js rows i j v others refl (grind arith) kept
 
   -- The end of a job keeps the records.
   pub kept_end : v.rem ≡ 0 → c' i ≡ record { finished = suc (c i).finished; units = 0 } → Kept ts first c' (set js i j) (set rows i v)
   kept_end z told =
       let old = live in
-      kept_set ts first c c' js rows i j v others refl
-      (subst (λ (y : Tally). Fits (get_or first i 0) y j v) (sym told)
-      (grind arith))
-      kept
+      kept_set ts first c c' js rows i j v others refl (subst (λ (y : Tally). Fits (get_or first i 0) y j v) (sym told) (grind arith)) kept

@@ -70,7 +70,7 @@ sound_quiet f n a b rows q s = grind arith
 enough_is : (w need : ℕ) (gs : List ℕ) (P : Option ℕ → Type 0) → P None → ((g : ℕ) → need ≤ g * w → P (Some g)) → P (enough_in w need gs)
 enough_is w need [] P none some = none
 enough_is w need (g ∷ gs) P none some =
-    cond_both (nat_le need (g * w)) (Some g) (enough_in w need gs) P (λ e. some g (leb-true need (g * w) e)) (λ e. enough_is w need gs P none some)
+    cond_both (nat_le need (g * w)) (Some g) (enough_in w need gs) P (λ e. grind arith) (λ e. enough_is w need gs P none some)
 
 -- The window ends by the deadline.
 end_due : (due : ℕ) (d : List Entry) → window_end due d ≤ due
@@ -80,7 +80,7 @@ end_due due (e ∷ es) = omega arith
 -- The window ends by every release.
 end_all : (due : ℕ) (d : List Entry) → Pairs Apart d → All (λ e. window_end due d ≤ e.key) d
 end_all due [] s = tt
-end_all due (e ∷ es) s = (omega arith, all_imp (Apart e) (λ x. min due e.key ≤ x.key) (λ x h. omega (arith, h.0)) es s.0)
+end_all due (e ∷ es) s = grind (arith, all_imp)
 
 module _ (x : Nature) (p : Plan) (l n a : ℕ) (first : List ℕ) (c : ℕ → Tally) (rows : List Row) where
   -- The admitted level, what holds after a settling, and the speed of a unit that is not slowed.
@@ -101,26 +101,19 @@ module _ (x : Nature) (p : Plan) (l n a : ℕ) (first : List ℕ) (c : ℕ → T
   resting : (d q : List Entry) (js : List Job) (u : Meaning) → u.asked ≡ f → ahead x.wake u ≤ a → Chosen q None →
       Stage f n a p.tasks first c (record { delay = d; queue = q; active = None; jobs = js }) rows →
       After (record { delay = d; queue = q; active = None; jobs = js }) (full (rest_until n x.wake d u))
-  resting [] q js u asked le ch g = stay (record { delay = []; queue = q; active = None; jobs = js }) u asked le g
+  resting [] q js u asked le ch g = grind arith
   resting (e ∷ es) q js u asked le ch g =
       cond_both (may_rest t u) (rest_for t u) u (λ y. After s (full y))
       (λ b.
-      let b' = (and_parts (ready u) _ b).1 in
-      let pos = ltb-true 0 t (and_parts (nat_lt 0 t) _ b').0 in
-      let is : ahead x.wake (rest_for t u) ≡ t + x.wake = cond-false (t == 0) u.lag (t + x.wake) (ne_eqb t 0 (λ z. omega arith)) in
+      let pos : 0 < t = grind arith in
+      let is : ahead x.wake (rest_for t u) ≡ t + x.wake = grind arith in
       inl (record {
         pace = refl;
         asked = asked;
         sound = sound_quiet f n a (ahead x.wake (rest_for t u)) rows
             (λ _ k h.
-            let z = none_active rows (e ∷ es) q g.shape ch k h in (
-              z,
-              omega (
-                arith,
-                waits_all rows (e ∷ es) q None (λ m. e.key ≤ m) g.shape
-                    (omega arith, all_imp (Apart e) (λ y. e.key ≤ y.key) (λ y w. w.0) es g.shape.sorted.0) k h z,
-              ),
-            ))
+            let z = none_active rows (e ∷ es) q g.shape ch k h in
+            (z, omega (arith, waits_all rows (e ∷ es) q None (λ m. e.key ≤ m) g.shape (grind (arith, all_imp)) k h z)))
             g.sound;
       }))
       (λ _. stay s u asked le g)
@@ -142,7 +135,7 @@ module _ (x : Nature) (p : Plan) (l n a : ℕ) (first : List ℕ) (c : ℕ → T
       enough_is w need p.levels (λ o. After s (slow_to x f l i o u)) (stay s u asked le g)
       (λ lv le'.
       cond_both (nat_lt lv f && may_ask x lv u) (record { pace = Slowed i; unit = ask_with l lv u }) (full u) (After s)
-      (λ b. inr (i, made (ltb-true 0 w e) lv le' (ltb-true lv f (and_parts (nat_lt lv f) (may_ask x lv u) b).0)))
+      (λ b. inr (i, made (grind arith) lv le' (grind arith)))
       (λ _. stay s u asked le g)))
       (λ _. stay s u asked le g)
     where
@@ -180,7 +173,7 @@ module _ (x : Nature) (p : Plan) (l n a : ℕ) (first : List ℕ) (c : ℕ → T
             active = refl;
             alone = refl;
             rest = z.0;
-            lag = cond-false (nat_lt u.asked lv) l u.lag (le-ltb u.asked lv (omega arith)) ∙ z.1;
+            lag = grind arith;
             below = below;
             enough = omega (arith, live.left, ap (λ (y : Task). y.work) is);
             due = omega (arith, live.due, end_due j.due d);
@@ -196,7 +189,7 @@ module _ (x : Nature) (p : Plan) (l n a : ℕ) (first : List ℕ) (c : ℕ → T
       (rest_or_slow x p l n x.raise x.wake o q (record { delay = d; queue = q; active = o; jobs = js }) u)
   chosen_speed d q None js u asked rd le ch g = resting d q js u asked le ch g
   chosen_speed d [] (Some i) js u asked rd le ch g = slowing d js i u asked rd le g
-  chosen_speed d (h ∷ q) (Some i) js u asked rd le ch g = stay (record { delay = d; queue = h ∷ q; active = Some i; jobs = js }) u asked le g
+  chosen_speed d (h ∷ q) (Some i) js u asked rd le ch g = grind arith
 
   -- A unit at the admitted level that may still lag is spared where it does not.
   spared_full : (s : Inner) (u : Meaning) → u.asked ≡ f → ahead x.wake u ≤ a → Chosen s.queue s.active → Stage f n a p.tasks first c s rows →
@@ -209,19 +202,13 @@ module _ (x : Nature) (p : Plan) (l n a : ℕ) (first : List ℕ) (c : ℕ → T
 elect_jobs : (s : Inner) (q : List Entry) (o : Option ℕ) → (elected q o s).jobs ≡ s.jobs
 elect_jobs s [] o = refl
 elect_jobs s (h ∷ q) None = refl
-elect_jobs s (h ∷ q) (Some i) =
-    cond_both (sooner (in_line i) h) s (record { delay = s.delay; queue = ordered sooner (in_line i) q; active = Some h.row; jobs = s.jobs })
-    (λ y. y.jobs ≡ s.jobs) (λ _. refl) (λ _. refl)
+elect_jobs s (h ∷ q) (Some i) = grind arith
 
 -- After the releases, every next release is to come.
 all_later : (f n a : ℕ) (ts : List Task) (first : List ℕ) (c : ℕ → Tally) (s : Inner) (rows : List Row) → Stage f n a ts first c s rows → All (λ e. n < e.key) s.delay →
     (k : ℕ) → k < length rows → n < (row_at rows k).next
 all_later f n a ts first c s rows g after k h =
-    ⊎_elim
-    (λ some.
-    let live = (g.kept.fits k h).lives some in
-    let v = g.sound.valid k h in
-    omega (arith, sound_due f n a rows g.sound k h some))
+    ⊎_elim (grind (arith, sound_due))
     (λ none. waits_all rows s.delay s.queue s.active (λ m. n < m) g.shape after k h (omega arith)) (cases_lt 0 (row_at rows k).rem)
 
 -- Settling at the admitted level, from a state where the theory's invariant holds.
@@ -236,12 +223,12 @@ settle_full x p l n a first c pass s rows g u asked le =
         Held x p first c n (elect s₁) (spared x p l n x.raise x.wake (elect s₁) Full u)
     finished rows' s₁ g₁ after =
         let (shape, chosen) = shape_elect rows' s₁.delay s₁.queue s₁.active s₁.jobs g₁.shape in
-        let kept = subst (λ (js : List Job). Kept p.tasks first c js rows') (sym (elect_jobs s₁ s₁.queue s₁.active)) g₁.kept in
+        let kept = subst (λ (js : List Job). Kept p.tasks first c js rows') (grind arith) g₁.kept in
         record {
           rows = rows';
           shape = shape;
           chosen = chosen;
           kept = kept;
           later = all_later p.admitted n a p.tasks first c s₁ rows' g₁ after;
-          mode = spared_full x p l n a first c rows' (elect s₁) u asked le chosen (record { shape = shape; kept = kept; sound = g₁.sound });
+          mode = spared_full x p l n a first c rows' (elect s₁) u asked le chosen (grind arith);
         }

@@ -58,16 +58,10 @@ pub shape_pop : (n : ℕ) (rows : List Row) (e : Entry) (es q : List Entry) (a :
     Shape (set rows e.row (fresh n (row_at rows e.row))) es (ordered sooner (in_line e.row) q) a
 shape_pop n rows e es q a valid s = record {
   sorted = s.sorted.1;
-  delayed = all_two (Delayed rows) (Apart e) (Delayed rows')
-      (λ x h p. (omega (arith, h.0, same_length), subst (Waits x.key) (sym (other x.row p.1)) h.1)) es s.delayed.1 s.sorted.0;
+  delayed = grind (arith, all_two, same_length, other);
   rising = grind (arith, rising_with, all_imp);
-  queued = all_ordered sooner (in_line i) (Queued rows' a) q
-      (omega (arith, in_rows, same_length), subst (λ (r : Row). 0 < r.rem) (sym here) (omega arith), λ eq. omega (arith, (s.acting i eq).1, nothing), refl)
-      (all_imp (Queued rows a) (Queued rows' a)
-      (λ y h. (omega (arith, h.0, same_length), subst (λ (r : Row). 0 < r.rem) (sym (other y.row (not_i y.row h.1))) h.1, h.2, h.3)) q s.queued);
-  acting = λ j eq.
-      let h = s.acting j eq in
-      (omega (arith, h.0, same_length), subst (λ (r : Row). 0 < r.rem) (sym (other j (not_i j h.1))) h.1);
+  queued = all_ordered sooner (in_line i) (Queued rows' a) q (grind (arith, here, same_length)) (grind (arith, all_imp, other, not_i, same_length));
+  acting = λ j eq. let h = s.acting j eq in grind (arith, other j, not_i j, same_length);
   placed = each_set (Placed es (ordered sooner (in_line i) q) a) rows i v (inr (omega arith, inr (any_here sooner (in_line i) (λ y. y.row ≡ i) q refl)))
       (λ k h ne. moved k ne (s.placed k h));
 }
@@ -114,23 +108,14 @@ pub shape_elect : (rows : List Row) (d q : List Entry) (a : Option ℕ) (js : Li
     Elected rows (elected q a (record { delay = d; queue = q; active = a; jobs = js }))
 shape_elect rows d [] None js s = (s, refl)
 shape_elect rows d [] (Some i) js s = (s, tt)
-shape_elect rows d (h ∷ q) None js s = grind (arith, all_two, some_same)
-  where
-    moved : (k : ℕ) → Placed d (h ∷ q) None k (row_at rows k) → Placed d q (Some h.row) k (row_at rows k)
-    moved k (inl z) = inl z
-    moved k (inr (p, inl eq)) = absurd (none_some k eq)
-    moved k (inr (p, inr (inl eq))) = grind arith
-    moved k (inr (p, inr (inr m))) = inr (p, inr m)
+shape_elect rows d (h ∷ q) None js s = grind (arith, all_two)
 shape_elect rows d (h ∷ q) (Some i) js s =
     cond_both (sooner (in_line i) h) (record { delay = d; queue = h ∷ q; active = Some i; jobs = js })
     (record { delay = d; queue = ordered sooner (in_line i) q; active = Some h.row; jobs = js }) (Elected rows) stays goes
   where
-    not_i : (y : Entry) → Queued rows (Some i) y → y.row ≢ i
-    not_i y a eq = grind arith
-
     moved : (k : ℕ) → Placed d (h ∷ q) (Some i) k (row_at rows k) → Placed d (ordered sooner (in_line i) q) (Some h.row) k (row_at rows k)
     moved k (inl z) = inl z
-    moved k (inr (p, inl eq)) = inr (p, inr (any_here sooner (in_line i) (λ y. y.row ≡ k) q (some_same i k eq)))
+    moved k (inr (p, inl eq)) = inr (p, inr (any_here sooner (in_line i) (λ y. y.row ≡ k) q (grind arith)))
     moved k (inr (p, inr (inl eq))) = grind arith
     moved k (inr (p, inr (inr m))) = inr (p, inr (any_there sooner (in_line i) (λ y. y.row ≡ k) q m))
 
@@ -142,11 +127,11 @@ shape_elect rows d (h ∷ q) (Some i) js s =
             sorted = s.sorted;
             delayed = s.delayed;
             rising = grind (arith, rising_with, all_imp);
-            queued = grind (arith, all_ordered, some_same, all_two);
+            queued = grind (arith, all_ordered, all_two);
             acting = grind arith;
             placed = λ k b. moved k (s.placed k b);
           },
-          all_ordered sooner (in_line i) (Rising h) q lt s.rising.0,
+          grind (arith, all_ordered),
         )
 
     stays : sooner (in_line i) h ≡ true → Elected rows (record { delay = d; queue = h ∷ q; active = Some i; jobs = js })
@@ -161,7 +146,7 @@ pub before_active : (rows : List Row) (d q : List Entry) (i : ℕ) → Shape row
 before_active rows d q i s c k lt = from (s.placed k (omega (arith, (s.acting i refl).0)))
   where
     from : Placed d q (Some i) k (row_at rows k) → (row_at rows k).rem ≡ 0
-    from (inl (z, m)) = z
+    from (inl h) = grind arith
     from (inr (p, inl eq)) = grind arith
     from (inr (p, inr m)) = absurd (any_all (λ e. e.row ≡ k) (λ e. i < e.row) ⊥ (λ e eq b. omega arith) q m c)
 
