@@ -14,19 +14,10 @@ use Rattle.machine.specs.Plans.{Plan, Planned}
 use Rattle.machine.proofs.Lists.{all_at, any_all}
 use Rattle.machine.proofs.Unit.{ready_is}
 
--- A fault is not none.
-some_none : {X : Type 0} (e : X) → Some e ≡ None → ⊥
-some_none e h = grind arith
-
 -- Where neither of two faults is found, the first is not, and the second is not.
 or_else_none : (a b : Option Fault) → or_else a b ≡ None → (a ≡ None) × (b ≡ None)
-or_else_none (Some e) b h = absurd (some_none e h)
+or_else_none (Some e) b h = grind arith
 or_else_none None b h = (refl, h)
-
--- A fault that is looked for by a test is not found where the test holds.
-cond_none : (b : Bool) (e : Fault) → cond b None (Some e) ≡ None → b ≡ true
-cond_none true e h = refl
-cond_none false e h = absurd (some_none e h)
 
 -- Where no fault is made of a place, there is no such place.
 mapped_none : (make : ℕ → Fault) (o : Option ℕ) → option_map make o ≡ None → o ≡ None
@@ -37,8 +28,7 @@ mapped_none make None h = refl
 place_none : (bad : ℕ → Bool) (k : ℕ) (xs : List ℕ) → place_of bad k xs ≡ None → All (λ a. bad a ≡ false) xs
 place_none bad k [] h = tt
 place_none bad k (a ∷ xs) h =
-    (cond_both (bad a) (Some k) (place_of bad (suc k) xs) (λ y. y ≡ None → All (λ b. bad b ≡ false) (a ∷ xs)) (λ e z. absurd (some_none k z))
-    (λ e z. (e, place_none bad (suc k) xs z))) h
+    grind (arith, place_none bad (suc k) xs)
 
 -- What begin leaves no fault in: the unit, the admitted level, the number of first releases, and that none is before the raise allowance.
 pub record Accepted (x : Nature) (p : Plan) (starts : List ℕ) (u : Meaning) : Type 0 where
@@ -72,8 +62,7 @@ accepted x p starts u planned none =
 
     taken : All (λ g. untaken g ≡ false) p.levels → x.takes p.admitted ≡ true
     taken all =
-        any_all (λ g. g ≡ p.admitted) (λ g. untaken g ≡ false) (x.takes p.admitted ≡ true)
-        (λ g e b. grind arith) p.levels planned.listed all
+        any_all (λ g. g ≡ p.admitted) (λ g. untaken g ≡ false) (x.takes p.admitted ≡ true) (λ g e b. grind arith) p.levels planned.listed all
 
     sized : (bs : List ℕ) → (length bs == 0 || length bs == length p.tasks) ≡ true → length (firsts x.raise p.tasks bs) ≡ length p.tasks
     sized [] e = length-replicate (length p.tasks) x.raise

@@ -37,9 +37,7 @@ put_has P i (b ∷ bs) d h a =
 put_sorted : (i : ℕ) (bs : List ℕ) (d : List Entry) → All (λ e. e.row < i) d → Pairs Apart d → Pairs Apart (put_all i bs d)
 put_sorted i [] d a s = s
 put_sorted i (b ∷ bs) d a s =
-    put_sorted (suc i) bs (ordered sooner (release_at b i) d)
-    (grind (arith, all_ordered, all_imp))
-    (grind (arith, sorted_with, all_imp))
+    put_sorted (suc i) bs (ordered sooner (release_at b i) d) (grind (arith, all_ordered, all_imp)) (grind (arith, sorted_with, all_imp))
 
 -- What was there stays there.
 put_keeps : (P : Entry → Type 0) (i : ℕ) (bs : List ℕ) (d : List Entry) → Any P d → Any P (put_all i bs d)
@@ -116,9 +114,7 @@ begin_holds x p starts l u planned within a =
     kept = record {
       table = table;
       size = omega (arith, length-replicate 32 no_job, planned.few, size, a.size);
-      fits = λ k h.
-          let w = waits k h in
-          record { waits = grind arith; lives = grind arith};
+      fits = λ k h. let w = waits k h in record { waits = grind arith; lives = grind arith };
     }
 
     sound : Sound p.admitted 0 x.raise rows

@@ -79,6 +79,3 @@ settle_over x p first planned takes l n h s rows u told le r g below stage =
 
     back : v ≡ record { pace = Full; unit = u' }
     back = grind arith
-
-    lag_is : u'.lag ≡ l.back
-    lag_is = grind arith

@@ -33,24 +33,11 @@ use Rattle.machine.proofs.Unit.{ahead, works_is, tick_ahead, tick_still}
 released_none : (ts : List Task) (n : ℕ) (d q : List Entry) (a : Option ℕ) (js : List Job) → All (λ e. n < e.key) d →
     released ts n d q a js ≡ record { delay = d; queue = q; active = a; jobs = js }
 released_none ts n [] q a js h = refl
-released_none ts n (e ∷ es) q a js h =
-    cond-false (nat_le e.key n)
-    (released ts n es (ordered sooner (in_line e.row) q) a (set js e.row (new_job (task_at ts e.row) e.key)))
-    (record { delay = e ∷ es; queue = q; active = a; jobs = js }) (lt-leb e.key n h.0)
+released_none ts n (e ∷ es) q a js h = grind arith
 
 -- Where the run queue is empty, there is nothing to choose.
 elect_none : (s : Inner) → s.queue ≡ [] → elect s ≡ s
 elect_none s e = grind arith
-
--- What the history tells of a row whose job is finished.
-told_end : (t : Task) (said : Bool) (m g : ℕ) (c : Tally) → c.units ≡ g → (said || g + m == t.work) ≡ true →
-    gets t said m c ≡ record { finished = suc c.finished; units = 0 }
-told_end t said m g c e h = grind arith
-
--- What the history tells of a row whose job goes on.
-told_on : (t : Task) (said : Bool) (m g : ℕ) (c : Tally) → c.units ≡ g → (said || g + m == t.work) ≡ false →
-    gets t said m c ≡ record { finished = c.finished; units = c.units + m }
-told_on t said m g c e h = grind arith
 
 -- A job that goes on was given the whole level, and has more left.
 more_left : (lv : ℕ) (said : Bool) (g w rem : ℕ) → rem + g ≡ w → (said || g + min lv (w - g) == w) ≡ false → (said ≡ false) × (min lv (w - g) ≡ lv) × (lv < rem)
@@ -118,10 +105,6 @@ module _ (x : Nature) (p : Plan) (planned : Planned p) (takes : x.takes p.admitt
   others : (k : ℕ) → k ≢ i → tallies p h' k ≡ tallies p h k
   others k ne = grind arith
 
-  -- The history tells of the active row that it got its units.
-  mine : tallies p h' i ≡ gets t said m (tallies p h i)
-  mine = grind arith
-
   -- Where the job goes on, it was not said to have ended, got the whole level, and has more left.
   on_facts : (said || whole) ≡ false → (said ≡ false) × (m ≡ lv) × (lv < r.rem)
   on_facts e = more_left lv said g t.work r.rem work_is e
@@ -142,7 +125,7 @@ module _ (x : Nature) (p : Plan) (planned : Planned p) (takes : x.takes p.admitt
   on_kept : (said || whole) ≡ false → Kept ts first (tallies p h') (give i m s).jobs rows'
   on_kept e =
       let f = on_facts e in
-      kept_on ts first (tallies p h) (tallies p h') js rows i m lv said kept hi pos others f.1 f.0 f.2 (mine ∙ told_on t said m g (tallies p h i) live.units e)
+      kept_on ts first (tallies p h) (tallies p h') js rows i m lv said kept hi pos others f.1 f.0 f.2 (grind arith)
 
   -- The next release of the row is the one in its record.
   end_next : v.next ≡ (job_at (give i m s).jobs i).next
@@ -154,7 +137,7 @@ module _ (x : Nature) (p : Plan) (planned : Planned p) (takes : x.takes p.admitt
 
   -- Where the job is finished, the records fit.
   end_kept : (said || whole) ≡ true → Kept ts first (tallies p h') (finish i (give i m s)).jobs rows'
-  end_kept e = kept_end ts first (tallies p h) (tallies p h') js rows i m lv said kept hi pos others (end_left e) (mine ∙ told_end t said m g (tallies p h i) live.units e)
+  end_kept e = kept_end ts first (tallies p h) (tallies p h') js rows i m lv said kept hi pos others (end_left e) (grind (arith, live))
 
   -- The admitted level, and what holds after the tick.
   abbrev f : ℕ
@@ -175,13 +158,12 @@ module _ (x : Nature) (p : Plan) (planned : Planned p) (takes : x.takes p.admitt
       (record { shape = on_shape e; kept = on_kept e; sound = sound }) a.asked still)
     where
       works_at : (ahead x.wake u ≡ 0) × (lv ≡ f)
-      works_at = full_works f x.wake n rows (record { pace = Full; unit = u }) a i hi pos
+      works_at = grind (arith, full_works, hi, pos)
 
       sound : Sound f (suc n) 0 rows'
       sound =
           subst (λ (y : ℕ). Sound f (suc n) 0 (set rows i (given y said r))) (sym works_at.1)
-          (sound_serve f said n (ahead x.wake u) rows i (subst (Passing f) (sym kept.table) (passing p planned)) hi pos
-          (before_active rows d q i shape chosen) later a.sound)
+          (sound_serve f said n (ahead x.wake u) rows i (grind arith) hi pos (before_active rows d q i shape chosen) later a.sound)
 
       still : ahead x.wake (tick_with l.woken u) ≤ 0
       still = omega (arith, tick_ahead x.wake l.woken u within.woken, works_at.0)
@@ -193,13 +175,13 @@ module _ (x : Nature) (p : Plan) (planned : Planned p) (takes : x.takes p.admitt
       (pass x p l (give i m s) (Slowed i) (state_of x n s (Slowed i)) u) After ends goes
     where
       valid : (k : ℕ) → k < length rows → Valid (row_at rows k).task
-      valid = valid_at rows (subst (All Valid) (sym kept.table) planned.valid)
+      valid = grind (arith, valid_at)
 
       w : ℕ
       w = b.window
 
       some_window : 1 ≤ w
-      some_window = ⊎_elim (λ y. y) (λ y. let z : w ≡ 0 = omega arith in absurd (omega (arith, b.enough, pos, ap (λ (k : ℕ). u.asked * k) z))) (cases_lt 0 w)
+      some_window = grind arith
 
       next_due : n + w + x.raise ≤ r.next
       next_due = let a = valid i hi in let o = live in omega (arith, b.due)
@@ -208,7 +190,7 @@ module _ (x : Nature) (p : Plan) (planned : Planned p) (takes : x.takes p.admitt
       u' = tick_with l.woken u
 
       still : (u'.rest ≡ 0) × (u'.lag ≡ 0)
-      still = tick_still l.woken u b.rest b.lag
+      still = grind arith
 
       ends : (said || whole) ≡ true → After (pass x p l (finish i (give i m s)) (pace_after i (Slowed i)) (state_of x n s (Slowed i)) u)
       ends e =
@@ -217,10 +199,10 @@ module _ (x : Nature) (p : Plan) (planned : Planned p) (takes : x.takes p.admitt
           (record {
             shape = end_shape e;
             kept = end_kept e;
-            sound = sound_anew f (suc n) x.raise rows' (subst (Passing f) (sym (end_kept e).table) (passing p planned))
+            sound = sound_anew f (suc n) x.raise rows' (grind (arith, end_kept, passing))
                 (each_set (λ _ y. Valid y.task) rows i v (valid i hi) (λ k hk _. valid k hk))
                 (each_set (λ _ y. (y.rem ≡ 0) × (suc n + x.raise ≤ y.next)) rows i v (end_left e, omega (arith, next_due, some_window))
-                (λ k hk ne. let o = b.others k hk ne in (o.0, omega (arith, o.1, some_window))));
+                (λ k hk ne. grind arith));
           }))
 
       goes : (said || whole) ≡ false → After (pass x p l (give i m s) (Slowed i) (state_of x n s (Slowed i)) u)
@@ -251,7 +233,7 @@ module _ (x : Nature) (p : Plan) (planned : Planned p) (takes : x.takes p.admitt
                   enough = subst (λ (y : Row). y.rem ≤ u.asked * (w - 1)) (sym here) less;
                   due = subst (λ (y : Row). suc n + (w - 1) + x.raise ≤ y.due) (sym here) (omega (arith, b.due, some_window));
                   others = each_set (λ k y. k ≢ i → (y.rem ≡ 0) × (suc n + (w - 1) + x.raise ≤ y.next)) rows i v (λ ne. absurd (ne refl))
-                      (λ k hk ne _. let o = b.others k hk ne in (o.0, omega (arith, o.1, some_window)));
+                      (λ k hk ne _. grind arith);
                 },
               );
             });
@@ -266,16 +248,12 @@ module _ (x : Nature) (p : Plan) (planned : Planned p) (takes : x.takes p.admitt
               omega (arith, on_left e, works_is u b.rest b.lag, b.enough, ap (λ (k : ℕ). u.asked * k) one)
 
           more : 2 ≤ w
-          more =
-              ⊎_elim (λ y. y)
-              (λ y.
-              let z : w - 1 ≡ 0 = omega arith in
-              absurd (omega (arith, less, on_left e, (on_facts e).2, ap (λ (k : ℕ). u.asked * k) z))) (cases_lt 1 w)
+          more = grind (arith, on_left, on_facts, cases_lt)
 
           after : All (λ y. suc n < y.key) d
           after =
               all_imp (Delayed rows) (λ y. suc n < y.key)
-              (λ y a. omega (arith, a.1.1, (b.others y.row a.0 (λ eq. omega (arith, a.1.0, pos, ap (λ (k : ℕ). (row_at rows k).rem) eq))).1, more)) d shape.delayed
+              (λ y a. omega (arith, a.1.1, (b.others y.row a.0 (λ eq. grind arith)).1, more)) d shape.delayed
 
           same_inner : elect (release_due ts (suc n) (give i m s)) ≡ give i m s
           same_inner = ap elect (released_none ts (suc n) d q (Some i) (give i m s).jobs after) ∙ elect_none (give i m s) b.alone
