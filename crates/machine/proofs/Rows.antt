@@ -4,7 +4,6 @@ use Rattle.std.proofs.lemmas.List.{get_or-map, length-map}
 use Rattle.theory.specs.Lists.{All}
 use Rattle.theory.specs.Tasks.{Task, Valid, no_task}
 use Rattle.theory.specs.Ticks.{Row, given, serve, tasks, at_rest}
-use Rattle.theory.proofs.Places.{by_serve}
 use Rattle.machine.specs.Plans.{task_at}
 use Rattle.machine.proofs.Lists.{all_at}
 

@@ -198,12 +198,6 @@ module _ (x : Nature) (p : Plan) (l n a : ℕ) (first : List ℕ) (c : ℕ → T
       cond_both (ready u) (rest_or_slow x p l n x.raise x.wake s.active s.queue s u) (full u) (After s)
       (λ e. chosen_speed s.delay s.queue s.active s.jobs u asked e le ch g) (λ _. stay s u asked le g)
 
--- The choice leaves the records.
-elect_jobs : (s : Inner) (q : List Entry) (o : Option ℕ) → (elected q o s).jobs ≡ s.jobs
-elect_jobs s [] o = refl
-elect_jobs s (h ∷ q) None = refl
-elect_jobs s (h ∷ q) (Some i) = grind arith
-
 -- After the releases, every next release is to come.
 all_later : (f n a : ℕ) (ts : List Task) (first : List ℕ) (c : ℕ → Tally) (s : Inner) (rows : List Row) → Stage f n a ts first c s rows → All (λ e. n < e.key) s.delay →
     (k : ℕ) → k < length rows → n < (row_at rows k).next

@@ -57,11 +57,6 @@ all_map f P Q h (x ∷ xs) a = (h x a.0, all_map f P Q h xs a.1)
 pub by_release : (n : ℕ) (r : Row) (P : Row → Type 0) → (r.next ≡ n → P (fresh n r)) → ((r.next ≡ n → ⊥) → P r) → P (released n r)
 by_release n r P yes' no' = grind arith
 
--- What holds of the rows where the first has no job, and where it is served, holds of the rows after the service.
-pub by_serve : (f : ℕ) (b : Bool) (r : Row) (rs : List Row) (P : List Row → Type 0) →
-    (r.rem ≡ 0 → P (r ∷ serve f b rs)) → (0 < r.rem → P (given f b r ∷ rs)) → P (serve f b (r ∷ rs))
-by_serve f b r rs P none some = grind arith
-
 -- The service keeps what each row keeps when it is given units.
 pub all_serve : (f : ℕ) (b : Bool) (P : Row → Type 0) → ((r : Row) → P r → P (given f b r)) → (rs : List Row) → All P rs → All P (serve f b rs)
 all_serve f b P h [] a = tt

@@ -69,10 +69,6 @@ good_release n s g = all_map (released n) (Good n) (Good (suc n)) (λ r a. grind
 pub good_tick : (f : ℕ) (b : Bool) (n : ℕ) (s : List Row) → All (Good n) s → All (Good (suc n)) (tick f b n s)
 good_tick f b n s g = all_serve f b (Good (suc n)) (λ r a. a) (map (released n) s) (good_release n s g)
 
--- A job that is unfinished after it was given units was unfinished before.
-pub still : (f : ℕ) (c : Bool) (r : Row) → 0 < (given f c r).rem → 0 < r.rem
-still f c r k = grind arith
-
 -- Where nothing is left down to the place i, the row there has no unfinished job.
 nothing_left : (f i : ℕ) (s : List Row) → 1 ≤ f → sum_to (left f) (suc i) s ≡ 0 → At (λ r. r.rem ≡ 0) i s
 nothing_left f i [] hf z = tt
