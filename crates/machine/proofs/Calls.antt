@@ -58,9 +58,9 @@ module _ (x : Nature) (p : Plan) (planned : Planned p) (takes : x.takes p.admitt
       (record {
         shape = held.shape;
         kept = kept_told p.tasks first (tallies p h) (tallies p h') s.jobs rows
-            (λ k. cond-false (0 == suc k) (gets (task_at p.tasks k) said 0 (tallies p h k)) (tallies p h k) (ne_eqb 0 (suc k) (λ e. omega arith))) held.kept;
-        sound = sound_anew f (suc n) (ahead x.wake u') rows (subst (Passing f) (sym held.kept.table) (passing p planned)) a.sound.valid
-            (λ k hk. (none k hk, ⊎_elim (λ b. omega (arith, (a.sound.quiet b k hk).1, fewer)) (λ b. omega (arith, held.later k hk, fewer)) (cases_lt 0 (ahead x.wake u))));
+            (λ k. grind arith) held.kept;
+        sound = sound_anew f (suc n) (ahead x.wake u') rows (grind (arith, passing)) a.sound.valid
+            (λ k hk. grind (arith, none k, fewer, held.later k, cases_lt 0 (ahead x.wake u)));
       })
       a.asked (omega arith))
     where
@@ -85,9 +85,7 @@ module _ (x : Nature) (p : Plan) (planned : Planned p) (takes : x.takes p.admitt
       AtFull f x.wake n held.rows (record { pace = Full; unit = u }) → After (run_active x p l said (Some i) (state_of x n (inner d q (Some i) js) Full) u)
   runs_full d q i js held a =
       cond_both {A = Result} (works u == 0) (run_none x p l said (state_of x n (inner d q (Some i) js) Full) u) (run_row x p l said i (state_of x n (inner d q (Some i) js) Full) u) After
-      (λ e.
-      let act = held.shape.acting i refl in
-      absurd (omega (arith, eqb-true (works u) 0 e, (full_works f x.wake n held.rows (record { pace = Full; unit = u }) a i act.0 act.1).1, planned.level)))
+      (λ e. let act = held.shape.acting i refl in grind (arith, full_works))
       (λ _. full_row x p planned takes first l within word h n told u held.rows d q js i held.shape held.chosen held.kept held.later a)
 
   -- A tick with an active row, at a lower level: that row runs.
@@ -95,9 +93,7 @@ module _ (x : Nature) (p : Plan) (planned : Planned p) (takes : x.takes p.admitt
       AtSlow f x.raise n held.rows q (Some i) i (record { pace = Slowed i; unit = u }) → After (run_active x p l said (Some i) (state_of x n (inner d q (Some i) js) (Slowed i)) u)
   runs_slow d q i js held b =
       cond_both {A = Result} (works u == 0) (run_none x p l said (state_of x n (inner d q (Some i) js) (Slowed i)) u) (run_row x p l said i (state_of x n (inner d q (Some i) js) (Slowed i)) u) After
-      (λ e.
-      let z : u.asked ≡ 0 = sym (works_is u b.rest b.lag) ∙ eqb-true (works u) 0 e in
-      absurd (omega (arith, b.enough, (held.shape.acting i refl).1, ap (λ (y : ℕ). y * b.window) z)))
+      (λ e. let act = held.shape.acting i refl in let z : u.asked ≡ 0 = grind arith in grind arith)
       (λ _. slow_row x p planned takes first l within word h n told u held.rows d q js i held.shape held.chosen held.kept held.later b)
 
   -- A tick keeps what holds, whatever the active row.
@@ -112,7 +108,7 @@ module _ (x : Nature) (p : Plan) (planned : Planned p) (takes : x.takes p.admitt
           (idle (inner d q None js)
           (record { rows = held.rows; shape = held.shape; chosen = held.chosen; kept = held.kept; later = held.later; mode = inl a' })
           (none_active held.rows d q held.shape held.chosen) a')
-      by (inr (i, b)) = absurd (none_some i b.active)
+      by (inr (i, b)) = grind arith
   active_holds d q (Some j) js pace held = by held.mode
     where
       by : Mode f x.raise x.wake n held.rows (inner d q (Some j) js) (record { pace = pace; unit = u }) →
@@ -123,7 +119,7 @@ module _ (x : Nature) (p : Plan) (planned : Planned p) (takes : x.takes p.admitt
           (runs_full d q j js
           (record { rows = held.rows; shape = held.shape; chosen = held.chosen; kept = held.kept; later = held.later; mode = inl a' }) a')
       by (inr (i, b)) =
-          let b₁ = subst (λ (y : ℕ). AtSlow f x.raise n held.rows q (Some j) y (record { pace = pace; unit = u })) (sym (some_same j i b.active)) b in
+          let b₁ = subst (λ (y : ℕ). AtSlow f x.raise n held.rows q (Some j) y (record { pace = pace; unit = u })) (grind arith) b in
           let b₂ : AtSlow f x.raise n held.rows q (Some j) j (record { pace = Slowed j; unit = u }) = record {
             window = b₁.window;
             pace = refl;
