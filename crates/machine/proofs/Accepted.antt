@@ -1,14 +1,12 @@
 -- What an accepted begin says of the unit and of the first releases.
-use Rattle.std.proofs.Common.{◌≡◌, ℕ, suc, ◌<◌, ◌≤◌, Bool, true, false, cond, not, ◌&&◌, ◌||◌, List, [], ◌∷◌, length, get_or, Some, None, Option, refl, subst, ⊎_elim, arith, nat_le, nat_lt, ◌==◌}
+use Rattle.std.proofs.Common.{◌≡◌, ℕ, suc, ◌<◌, ◌≤◌, Bool, true, false, not, ◌&&◌, ◌||◌, List, [], ◌∷◌, length, get_or, Some, None, Option, refl, arith, nat_le, nat_lt, ◌==◌}
 use lib.ListN.{length-replicate, get_or-replicate}
 use Rattle.std.specs.Option.{option_map}
-use Rattle.std.proofs.lemmas.Bool.{both_ways, cond_both, eqb-true, le-leb, ltb-false, not-false, or_cases, and_cases}
+use Rattle.std.proofs.lemmas.Bool.{ltb-false}
 use Rattle.fault.specs.declared.Fault.{Fault}
-use Rattle.fault.specs.declared.Refusal.TheVariants.{BadCount, UnitNotReady, LevelNotTaken, EarlyStart}
-use Rattle.fault.specs.Faults.{fault_at}
 use Rattle.theory.specs.Lists.{All}
 use Rattle.theory.proofs.Lists.{all_imp}
-use Rattle.units.specs.Meaning.{Meaning, Nature, ready}
+use Rattle.units.specs.Meaning.{Meaning, Nature}
 use Rattle.machine.specs.Begin.{place_of, count_fault, late_fault, ready_fault, untaken_fault, early_fault, or_else, begin_fault, firsts}
 use Rattle.machine.specs.Plans.{Plan, Planned}
 use Rattle.machine.proofs.Lists.{all_at, any_all}

@@ -1,7 +1,6 @@
 -- After an accepted begin, what should hold of a run holds.
-use Rattle.std.proofs.Common.{◌≡◌, ℕ, zero, suc, ◌+◌, ◌<◌, ◌≤◌, ◌≢◌, List, [], ◌∷◌, length, get_or, replicate, None, sym, refl, ap, subst, inl, arith, nat_lt}
+use Rattle.std.proofs.Common.{◌≡◌, ℕ, zero, suc, ◌+◌, ◌<◌, ◌≤◌, List, [], ◌∷◌, length, get_or, replicate, None, sym, refl, ap, subst, inl, arith}
 use lib.ListN.{length-replicate}
-use Rattle.std.proofs.lemmas.Bool.{cond_both}
 use Rattle.std.proofs.lemmas.List.{length-map}
 use Rattle.queue.specs.declared.Entry.{Entry}
 use Rattle.queue.specs.Entries.{sooner}
@@ -23,8 +22,8 @@ use Rattle.machine.proofs.Load.{Sound, Passing, sound_anew}
 use Rattle.machine.proofs.Orders.{Apart, sorted_with}
 use Rattle.machine.proofs.Records.{Kept}
 use Rattle.machine.proofs.Rows.{row_at, valid_at}
-use Rattle.machine.proofs.Shape.{Waits, Delayed, Shape, none_some}
-use Rattle.machine.proofs.Unit.{ahead, ahead_lag}
+use Rattle.machine.proofs.Shape.{Waits, Delayed, Shape}
+use Rattle.machine.proofs.Unit.{ahead}
 
 -- What holds of every row that is put, and of those that were there, holds of all.
 put_has : (P : Entry → Type 0) (i : ℕ) (bs : List ℕ) (d : List Entry) → ((k j : ℕ) → k < length bs → j ≡ i + k → P (release_at (get_or bs k 0) j)) → All P d → All P (put_all i bs d)

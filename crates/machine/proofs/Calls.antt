@@ -1,6 +1,6 @@
 -- Every word keeps what holds.
-use Rattle.std.proofs.Common.{◌≡◌, ℕ, suc, ◌-◌, ◌*◌, ◌<◌, ◌≤◌, Bool, true, List, ◌∷◌, length, Some, None, Option, sym, refl, ap, ◌∙◌, subst, inl, inr, ⊎_elim, arith, nat_le, ◌==◌}
-use Rattle.std.proofs.lemmas.Bool.{cases_lt, cond_both, cond-false, eqb-true, ne_eqb}
+use Rattle.std.proofs.Common.{◌≡◌, ℕ, suc, ◌-◌, ◌<◌, ◌≤◌, Bool, true, List, ◌∷◌, length, Some, None, Option, sym, refl, ap, subst, inl, inr, arith, nat_le, ◌==◌}
+use Rattle.std.proofs.lemmas.Bool.{cases_lt, cond_both}
 use Rattle.fault.specs.declared.Fault.{Fault}
 use Rattle.fault.specs.declared.Refusal.TheVariants.{CountFull, NothingGiven}
 use Rattle.fault.specs.Faults.{fault_at}
@@ -15,18 +15,18 @@ use Rattle.machine.specs.declared.word.Outcome.TheVariants.{Going}
 use Rattle.machine.specs.declared.word.Reply.TheVariants.{Ran, Refused}
 use Rattle.machine.specs.declared.word.Word.{Word}
 use Rattle.machine.specs.declared.word.Word.TheVariants.{GoOn, Ended, Standing}
-use Rattle.machine.specs.History.{History, gets, count, says_ended}
+use Rattle.machine.specs.History.{History, count, says_ended}
 use Rattle.machine.specs.Inner.{Inner}
 use Rattle.machine.specs.Machine.{State, Now, Lags, Within, Result, pass, same, run_row, run_none, run_active, tick, step}
-use Rattle.machine.specs.Plans.{Plan, Planned, task_at}
+use Rattle.machine.specs.Plans.{Plan, Planned}
 use Rattle.machine.proofs.Holds.{tallies, state_of, Holds, passing, settle_holds}
-use Rattle.machine.proofs.Load.{Passing, sound_anew}
+use Rattle.machine.proofs.Load.{sound_anew}
 use Rattle.machine.proofs.Records.{kept_told}
 use Rattle.machine.proofs.Rows.{row_at}
 use Rattle.machine.proofs.Settle.{AtFull, AtSlow, Mode, Held, full_works}
-use Rattle.machine.proofs.Shape.{none_active, some_same, none_some}
+use Rattle.machine.proofs.Shape.{none_active}
 use Rattle.machine.proofs.Steps.{full_row, slow_row}
-use Rattle.machine.proofs.Unit.{ahead, works_is, tick_ahead}
+use Rattle.machine.proofs.Unit.{ahead, tick_ahead}
 
 module _ (x : Nature) (p : Plan) (planned : Planned p) (takes : x.takes p.admitted ≡ true) (first : List ℕ) (l : Lags)
     (within : Within x l) (word : Word) (h : History) (u : Meaning) (n : ℕ) (told : n ≡ count h) where

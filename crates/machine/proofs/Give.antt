@@ -1,5 +1,5 @@
 -- The queues hold just the rows that they should: as the active row is given units, and at the end of its job.
-use Rattle.std.proofs.Common.{◌≡◌, ℕ, ◌<◌, ◌≢◌, List, length, set, Some, None, Option, sym, refl, subst, inl, inr, arith, rules}
+use Rattle.std.proofs.Common.{◌≡◌, ℕ, ◌<◌, ◌≢◌, List, length, set, Some, None, Option, refl, inl, arith, rules}
 use Rattle.queue.specs.declared.Entry.{Entry}
 use Rattle.queue.specs.Entries.{sooner}
 use Rattle.queue.specs.Order.{ordered}
@@ -10,7 +10,7 @@ use Rattle.machine.specs.Inner.{release_at}
 use Rattle.machine.proofs.Lists.{all_ordered, any_here, any_there}
 use Rattle.machine.proofs.Orders.{sorted_with}
 use Rattle.machine.proofs.Rows.{row_at, each_set}
-use Rattle.machine.proofs.Shape.{some_same, none_some, Waits, Delayed, Queued, Placed, Shape}
+use Rattle.machine.proofs.Shape.{Delayed, Queued, Placed, Shape}
 
 module _ (rows : List Row) (d q : List Entry) (i : ℕ) (v : Row) (s : Shape rows d q (Some i)) where
   -- The rows after a write to the active one.

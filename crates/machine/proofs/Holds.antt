@@ -1,20 +1,19 @@
 -- What holds of a run with its history, and that it holds after a settling.
-use Rattle.std.proofs.Common.{◌≡◌, ℕ, ◌<◌, ◌≤◌, true, List, sym, refl, subst, arith, nat_lt, rules}
-use Rattle.std.proofs.lemmas.Bool.{cond-true, lt-ltb, and_from}
+use Rattle.std.proofs.Common.{◌≡◌, ℕ, ◌<◌, ◌≤◌, true, List, sym, refl, subst, arith, rules}
 use Rattle.theory.specs.Ticks.{Row}
 use Rattle.units.specs.Calls.{ask_with}
-use Rattle.units.specs.Meaning.{Meaning, Nature, ready}
+use Rattle.units.specs.Meaning.{Meaning, Nature}
 use Rattle.machine.specs.declared.job.Pace.{Pace}
 use Rattle.machine.specs.declared.job.Pace.TheVariants.{Full, Over}
 use Rattle.machine.specs.History.{Tally, History, tally, count}
 use Rattle.machine.specs.Inner.{Inner, release_due, elect}
 use Rattle.machine.specs.Machine.{State, Now, Lags, settle}
 use Rattle.machine.specs.Plans.{Plan, Planned, task_at}
-use Rattle.machine.specs.Speed.{Speed, may_ask, ask_back, spared}
+use Rattle.machine.specs.Speed.{Speed, ask_back, spared}
 use Rattle.machine.proofs.Load.{Passing}
 use Rattle.machine.proofs.Releases.{Stage}
 use Rattle.machine.proofs.Settle.{Held, settle_full}
-use Rattle.machine.proofs.Unit.{ahead, ahead_lag, ready_from}
+use Rattle.machine.proofs.Unit.{ahead, ahead_lag}
 
 -- What the history tells of each row.
 abbrev pub tallies : Plan → History → ℕ → Tally

@@ -1,15 +1,14 @@
 -- The promises, from what holds of every run with its history.
 use Rattle.std.proofs.Common.{◌≡◌, ℕ, ◌+◌, ◌*◌, ◌<◌, ◌≤◌, true, List, [], ◌∷◌, length, get_or, sym, ap, ◌∙◌, subst, inl, inr, ⊎_elim, arith, rules}
-use Rattle.std.proofs.lemmas.Bool.{cases_lt, cases_eq}
+use Rattle.std.proofs.lemmas.Bool.{cases_eq}
 use Rattle.std.proofs.lemmas.List.{length-map}
-use Rattle.theory.specs.Lists.{All}
 use Rattle.theory.specs.Tasks.{Task, Valid}
 use Rattle.theory.specs.Ticks.{Row}
 use Rattle.units.specs.Meaning.{Meaning, Nature, works}
 use Rattle.machine.specs.Begin.{firsts}
 use Rattle.machine.specs.History.{History, Unfinished, Late, release_of}
 use Rattle.machine.specs.Inner.{job_at}
-use Rattle.machine.specs.Machine.{State, Now, Result}
+use Rattle.machine.specs.Machine.{Now, Result}
 use Rattle.machine.specs.Plans.{Plan, Planned, task_at}
 use Rattle.machine.specs.Promises.{EveryRunIsLawful}
 use Rattle.machine.specs.Reached.{Reached}
@@ -22,7 +21,7 @@ use Rattle.machine.proofs.Load.{sound_due}
 use Rattle.machine.proofs.Records.{Fits}
 use Rattle.machine.proofs.Rows.{row_at, task_is, valid_at}
 use Rattle.machine.proofs.Settle.{Mode, full_works}
-use Rattle.machine.proofs.Unit.{ahead, ahead_ready}
+use Rattle.machine.proofs.Unit.{ahead}
 
 -- An admitted plan whose level the unit takes, and a run of it of which all holds that should.
 record Runs (x : Nature) (p : Plan) (starts : List ℕ) (h : History) (now : Now) : Type 0 where

@@ -1,6 +1,5 @@
 -- The records of the jobs fit the theory's rows and what the history tells: after a release, after units, and at a job's end.
-use Rattle.std.proofs.Common.{◌≡◌, ℕ, suc, ◌+◌, ◌-◌, ◌*◌, ◌<◌, ◌≤◌, Bool, false, ◌≢◌, List, length, get_or, set, sym, refl, ap, subst, arith, rules}
-use Rattle.std.proofs.lemmas.Bool.{cond-false}
+use Rattle.std.proofs.Common.{◌≡◌, ℕ, suc, ◌+◌, ◌-◌, ◌*◌, ◌<◌, ◌≤◌, Bool, false, ◌≢◌, List, length, get_or, set, sym, refl, subst, arith, rules}
 use Rattle.theory.specs.Tasks.{Task, Valid}
 use Rattle.theory.specs.Ticks.{Row, fresh, given, tasks}
 use Rattle.machine.specs.declared.job.Job.{Job}

@@ -1,5 +1,5 @@
 -- The releases of a settling: the queues, the records and the theory's invariant hold through them.
-use Rattle.std.proofs.Common.{◌≡◌, ℕ, ◌<◌, ◌≤◌, true, false, List, [], ◌∷◌, set, Option, sym, ◌∙◌, subst, arith, nat_le}
+use Rattle.std.proofs.Common.{◌≡◌, ℕ, ◌<◌, ◌≤◌, true, false, List, [], ◌∷◌, set, Option, sym, ◌∙◌, arith, nat_le}
 use Rattle.std.proofs.lemmas.Bool.{cond_both, leb-true, leb-false}
 use Rattle.queue.specs.declared.Entry.{Entry}
 use Rattle.queue.specs.Entries.{sooner}
@@ -13,7 +13,6 @@ use Rattle.machine.specs.History.{Tally}
 use Rattle.machine.specs.Inner.{Inner, in_line, new_job, released}
 use Rattle.machine.specs.Plans.{task_at}
 use Rattle.machine.proofs.Load.{Sound, Passing, sound_fresh}
-use Rattle.machine.proofs.Orders.{Apart}
 use Rattle.machine.proofs.Records.{Kept, kept_pop}
 use Rattle.machine.proofs.Rows.{row_at}
 use Rattle.machine.proofs.Shape.{Delayed, Shape, shape_pop}

@@ -1,9 +1,7 @@
 -- Settling: what holds after it, at the admitted level or slowed.
-use Rattle.std.proofs.Common.{◌≡◌, ℕ, ◌+◌, ◌-◌, ◌*◌, ◌<◌, ◌≤◌, min, true, ◌&&◌, ◌≢◌, ◌⊎◌, List, [], ◌∷◌, length, get_or, Some, None, Option, sym, refl, ap, ◌∙◌, subst, inl, inr, ⊎_elim, arith, nat_le, nat_lt, ◌==◌}
-use Rattle.std.proofs.lemmas.Bool.{cases_lt, cond_both, cond-false, leb-true, ltb-true, le-ltb, ne_eqb, and_parts}
+use Rattle.std.proofs.Common.{◌≡◌, ℕ, ◌+◌, ◌-◌, ◌*◌, ◌<◌, ◌≤◌, true, ◌&&◌, ◌≢◌, ◌⊎◌, List, [], ◌∷◌, length, get_or, Some, None, Option, refl, ap, subst, inl, inr, ⊎_elim, arith, nat_le, nat_lt}
+use Rattle.std.proofs.lemmas.Bool.{cases_lt, cond_both}
 use Rattle.queue.specs.declared.Entry.{Entry}
-use Rattle.queue.specs.Entries.{sooner}
-use Rattle.queue.specs.Order.{ordered}
 use Rattle.theory.specs.Lists.{All}
 use Rattle.theory.specs.Tasks.{Task}
 use Rattle.theory.specs.Ticks.{Row}
@@ -13,7 +11,7 @@ use Rattle.units.specs.Meaning.{Meaning, Nature, ready, works}
 use Rattle.machine.specs.declared.job.Job.{Job}
 use Rattle.machine.specs.declared.job.Pace.TheVariants.{Full, Slowed}
 use Rattle.machine.specs.History.{Tally}
-use Rattle.machine.specs.Inner.{Inner, in_line, job_at, released, release_due, elected, elect}
+use Rattle.machine.specs.Inner.{Inner, job_at, released, release_due, elect}
 use Rattle.machine.specs.Plans.{Plan, task_at}
 use Rattle.machine.specs.Speed.{Speed, may_ask, may_rest, rest_until, window_end, window, enough_in, slow_to, slow_for, rest_or_slow, spared}
 use Rattle.machine.proofs.Lists.{Pairs}

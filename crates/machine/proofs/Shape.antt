@@ -1,5 +1,5 @@
 -- The queues hold just the rows that they should: through the releases and the choice of the active row.
-use Rattle.std.proofs.Common.{◌≡◌, ℕ, ◌<◌, true, false, ◌≢◌, ◌⊎◌, List, [], ◌∷◌, length, set, Some, None, Option, sym, refl, ap, ◌∙◌, subst, inl, inr, ⊎_elim, arith, length-set}
+use Rattle.std.proofs.Common.{◌≡◌, ℕ, ◌<◌, true, false, ◌≢◌, ◌⊎◌, List, [], ◌∷◌, length, set, Some, None, Option, sym, refl, inl, inr, arith, length-set}
 use Rattle.std.proofs.lemmas.List.{get_or-set_same, get_or-set_other}
 use Rattle.std.proofs.lemmas.Bool.{cases_lt, cond_both}
 use Rattle.queue.specs.declared.Entry.{Entry}
@@ -14,14 +14,6 @@ use Rattle.machine.specs.Inner.{Inner, in_line, elected}
 use Rattle.machine.proofs.Lists.{Pairs, any_all, all_ordered, any_here, any_there}
 use Rattle.machine.proofs.Orders.{Apart, Rising, rows_true, rows_false, rising_with}
 use Rattle.machine.proofs.Rows.{no_row, row_at, each_set}
-
--- The same row is active.
-pub some_same : (i j : ℕ) → Some i ≡ Some j → i ≡ j
-some_same i j e = cc
-
--- No row is active, so this one is not.
-pub none_some : (i : ℕ) → ◌≡◌ {A = Option ℕ} None (Some i) → ⊥
-none_some i e = grind arith
 
 -- The row has no unfinished job, and its next release is at tick t.
 abbrev pub Waits : ℕ → Row → Type 0

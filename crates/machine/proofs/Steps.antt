@@ -1,10 +1,8 @@
 -- A tick in which the active row runs: what holds goes on holding.
-use Rattle.std.proofs.Common.{◌≡◌, ℕ, suc, ◌+◌, ◌-◌, ◌*◌, ◌<◌, ◌≤◌, min, Bool, true, false, cond, ◌||◌, ◌≢◌, List, [], ◌∷◌, length, get_or, set, Some, None, Option, sym, refl, ap, ◌∙◌, subst, inr, ⊎_elim, arith, nat_le, ◌==◌, rules}
+use Rattle.std.proofs.Common.{◌≡◌, ℕ, suc, ◌+◌, ◌-◌, ◌*◌, ◌<◌, ◌≤◌, min, Bool, true, false, ◌||◌, ◌≢◌, List, [], ◌∷◌, length, get_or, set, Some, None, Option, sym, refl, ap, ◌∙◌, subst, inr, arith, ◌==◌, rules}
 use Rattle.std.proofs.lemmas.List.{get_or-set_same}
-use Rattle.std.proofs.lemmas.Bool.{cases_lt, cond_both, cond-true, cond-false, lt-leb, eqb-true, eq-eqb}
+use Rattle.std.proofs.lemmas.Bool.{cases_lt, cond_both, cond-true, eq-eqb}
 use Rattle.queue.specs.declared.Entry.{Entry}
-use Rattle.queue.specs.Entries.{sooner}
-use Rattle.queue.specs.Order.{ordered}
 use Rattle.theory.specs.Lists.{All}
 use Rattle.theory.specs.Tasks.{Task, Valid}
 use Rattle.theory.specs.Ticks.{Row, given}
@@ -16,18 +14,18 @@ use Rattle.machine.specs.declared.job.Pace.{Pace}
 use Rattle.machine.specs.declared.job.Pace.TheVariants.{Full, Slowed, Over}
 use Rattle.machine.specs.declared.word.Reply.TheVariants.{Ran}
 use Rattle.machine.specs.declared.word.Word.{Word}
-use Rattle.machine.specs.History.{Tally, History, gets, count, says_ended}
-use Rattle.machine.specs.Inner.{Inner, in_line, job_at, new_job, give, finish, released, release_due, elect}
+use Rattle.machine.specs.History.{History, count, says_ended}
+use Rattle.machine.specs.Inner.{Inner, job_at, give, finish, released, release_due, elect}
 use Rattle.machine.specs.Machine.{Now, Lags, Within, pass, outcome_of, pace_after, run_row}
 use Rattle.machine.specs.Plans.{Plan, Planned, task_at}
 use Rattle.machine.proofs.Give.{shape_on, shape_end}
 use Rattle.machine.proofs.Holds.{tallies, state_of, Holds, passing, settle_holds, settle_over}
-use Rattle.machine.proofs.Load.{Sound, Passing, sound_anew, sound_serve}
+use Rattle.machine.proofs.Load.{Sound, sound_anew, sound_serve}
 use Rattle.machine.proofs.Records.{Lives, Kept, kept_on, kept_end}
 use Rattle.machine.proofs.Rows.{no_row, row_at, each_set, task_is, valid_at}
 use Rattle.machine.proofs.Settle.{AtFull, AtSlow, Held, full_works}
 use Rattle.machine.proofs.Shape.{Delayed, Shape, Chosen, before_active}
-use Rattle.machine.proofs.Unit.{ahead, works_is, tick_ahead, tick_still}
+use Rattle.machine.proofs.Unit.{ahead, works_is, tick_ahead}
 
 -- Where every release is to come, there is nothing to release.
 released_none : (ts : List Task) (n : ℕ) (d q : List Entry) (a : Option ℕ) (js : List Job) → All (λ e. n < e.key) d →
