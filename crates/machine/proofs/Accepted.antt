@@ -1,43 +1,32 @@
 -- What an accepted begin says of the unit and of the first releases.
-use Rattle.std.proofs.Common.{◌≡◌, ℕ, suc, ◌<◌, ◌≤◌, Bool, true, false, cond, not, ◌&&◌, ◌||◌, eqb, ltb, leb, List, [], ◌∷◌, length, get_or, Some, None, Option, refl, subst, ⊎_elim, arith}
+use Rattle.std.proofs.Common.{◌≡◌, ℕ, suc, ◌<◌, ◌≤◌, Bool, true, false, not, ◌&&◌, ◌||◌, List, [], ◌∷◌, length, get_or, Some, None, Option, refl, arith, nat_le, nat_lt, ◌==◌}
 use lib.ListN.{length-replicate, get_or-replicate}
 use Rattle.std.specs.Option.{option_map}
-use Rattle.std.proofs.lemmas.Bool.{both_ways, cond_both, eqb-true, le-leb, ltb-false, not-false, or_cases, and_cases}
+use Rattle.std.proofs.lemmas.Bool.{ltb-false}
 use Rattle.fault.specs.declared.Fault.{Fault}
-use Rattle.fault.specs.declared.Refusal.TheVariants.{BadCount, UnitNotReady, LevelNotTaken, EarlyStart}
-use Rattle.fault.specs.Faults.{fault_at}
 use Rattle.theory.specs.Lists.{All}
-use Rattle.units.specs.Meaning.{Meaning, Nature, ready}
+use Rattle.theory.proofs.Lists.{all_imp}
+use Rattle.units.specs.Meaning.{Meaning, Nature}
 use Rattle.machine.specs.Begin.{place_of, count_fault, late_fault, ready_fault, untaken_fault, early_fault, or_else, begin_fault, firsts}
 use Rattle.machine.specs.Plans.{Plan, Planned}
-use Rattle.machine.proofs.Lists.{all_imp, all_at, any_all}
+use Rattle.machine.proofs.Lists.{all_at, any_all}
 use Rattle.machine.proofs.Unit.{ready_is}
-
--- A fault is not none.
-some_none : {X : Type 0} (e : X) → Some e ≡ None → ⊥
-some_none e h = let z : ◌≡◌ {A = ℕ} 0 1 = cc in omega arith
 
 -- Where neither of two faults is found, the first is not, and the second is not.
 or_else_none : (a b : Option Fault) → or_else a b ≡ None → (a ≡ None) × (b ≡ None)
-or_else_none (Some e) b h = absurd (some_none e h)
+or_else_none (Some e) b h = grind arith
 or_else_none None b h = (refl, h)
-
--- A fault that is looked for by a test is not found where the test holds.
-cond_none : (b : Bool) (e : Fault) → cond b None (Some e) ≡ None → b ≡ true
-cond_none true e h = refl
-cond_none false e h = absurd (some_none e h)
 
 -- Where no fault is made of a place, there is no such place.
 mapped_none : (make : ℕ → Fault) (o : Option ℕ) → option_map make o ≡ None → o ≡ None
-mapped_none make (Some k) h = absurd (some_none (make k) h)
+mapped_none make (Some k) h = grind arith
 mapped_none make None h = refl
 
 -- Where there is no place of a bad number, every number is good.
 place_none : (bad : ℕ → Bool) (k : ℕ) (xs : List ℕ) → place_of bad k xs ≡ None → All (λ a. bad a ≡ false) xs
 place_none bad k [] h = tt
 place_none bad k (a ∷ xs) h =
-    (cond_both (bad a) (Some k) (place_of bad (suc k) xs) (λ y. y ≡ None → All (λ b. bad b ≡ false) (a ∷ xs)) (λ e z. absurd (some_none k z))
-    (λ e z. (e, place_none bad (suc k) xs z))) h
+    grind (arith, place_none bad (suc k) xs)
 
 -- What begin leaves no fault in: the unit, the admitted level, the number of first releases, and that none is before the raise allowance.
 pub record Accepted (x : Nature) (p : Plan) (starts : List ℕ) (u : Meaning) : Type 0 where
@@ -54,35 +43,29 @@ accepted x p starts u planned none =
     let (_, r₂) = or_else_none (late_fault starts) _ r₁ in
     let (n₂, r₃) = or_else_none (ready_fault u) _ r₂ in
     let (n₃, n₄) = or_else_none (untaken_fault x p.admitted p.levels) (early_fault x.raise starts) r₃ in
-    let is = ready_is u (cond_none (ready u) (fault_at UnitNotReady 0 0) n₂) in
+    let is = ready_is u (grind arith) in
     record {
       rest = is.0;
       lag = is.1;
-      takes = taken (place_none untaken 1 p.levels (mapped_none (λ i. fault_at LevelNotTaken 0 i) (place_of untaken 1 p.levels) n₃));
-      size = sized starts (cond_none (eqb (length starts) 0 || eqb (length starts) (length p.tasks)) (fault_at BadCount 0 0) n₁);
-      after = later starts (place_none early 1 starts (mapped_none (λ i. fault_at EarlyStart 0 i) (place_of early 1 starts) n₄));
+      takes = taken (grind (arith, place_none, mapped_none));
+      size = sized starts (grind arith);
+      after = later starts (grind (arith, place_none, mapped_none));
     }
   where
     untaken : ℕ → Bool
-    untaken g = leb g p.admitted && not (x.takes g)
+    untaken g = nat_le g p.admitted && not (x.takes g)
 
     early : ℕ → Bool
-    early a = ltb a x.raise
+    early a = nat_lt a x.raise
 
     taken : All (λ g. untaken g ≡ false) p.levels → x.takes p.admitted ≡ true
     taken all =
-        any_all (λ g. g ≡ p.admitted) (λ g. untaken g ≡ false) (x.takes p.admitted ≡ true)
-        (λ g e b. subst (λ (y : ℕ). x.takes y ≡ true) e
-        (⊎_elim (λ c. absurd (both_ways (leb g p.admitted) c (le-leb g p.admitted (omega arith)))) (λ c. not-false (x.takes g) c)
-        (and_cases (leb g p.admitted) (not (x.takes g)) b))) p.levels planned.listed all
+        any_all (λ g. g ≡ p.admitted) (λ g. untaken g ≡ false) (x.takes p.admitted ≡ true) (λ g e b. grind arith) p.levels planned.listed all
 
-    sized : (bs : List ℕ) → (eqb (length bs) 0 || eqb (length bs) (length p.tasks)) ≡ true → length (firsts x.raise p.tasks bs) ≡ length p.tasks
+    sized : (bs : List ℕ) → (length bs == 0 || length bs == length p.tasks) ≡ true → length (firsts x.raise p.tasks bs) ≡ length p.tasks
     sized [] e = length-replicate (length p.tasks) x.raise
-    sized (b ∷ bs) e =
-        ⊎_elim (λ z. absurd (omega (arith, eqb-true (suc (length bs)) 0 z))) (λ z. eqb-true (suc (length bs)) (length p.tasks) z)
-        (or_cases (eqb (suc (length bs)) 0) (eqb (suc (length bs)) (length p.tasks)) e)
+    sized (b ∷ bs) e = grind arith
 
     later : (bs : List ℕ) → All (λ a. early a ≡ false) bs → (k : ℕ) → k < length (firsts x.raise p.tasks bs) → x.raise ≤ get_or (firsts x.raise p.tasks bs) k 0
-    later [] a k h =
-        omega (arith, get_or-replicate (length p.tasks) k x.raise 0 (omega (arith, length-replicate (length p.tasks) x.raise)))
-    later (b ∷ bs) a k h = all_at (λ y. x.raise ≤ y) 0 (b ∷ bs) (all_imp (λ y. early y ≡ false) (λ y. x.raise ≤ y) (λ y e. ltb-false y x.raise e) (b ∷ bs) a) k h
+    later [] a k h = grind (arith, get_or-replicate, length-replicate)
+    later (b ∷ bs) a k h = grind (arith, all_at, all_imp, ltb-false)

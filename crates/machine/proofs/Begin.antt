@@ -1,14 +1,14 @@
 -- After an accepted begin, what should hold of a run holds.
-use Rattle.std.proofs.Common.{◌≡◌, ℕ, zero, suc, ◌+◌, ◌<◌, ◌≤◌, ltb, ◌≢◌, List, [], ◌∷◌, length, get_or, replicate, None, sym, refl, ap, subst, inl, arith}
+use Rattle.std.proofs.Common.{◌≡◌, ℕ, zero, suc, ◌+◌, ◌<◌, ◌≤◌, List, [], ◌∷◌, length, get_or, replicate, None, sym, refl, ap, subst, inl, arith}
 use lib.ListN.{length-replicate}
-use Rattle.std.proofs.lemmas.Bool.{cond_both}
+use Rattle.std.proofs.lemmas.List.{length-map}
 use Rattle.queue.specs.declared.Entry.{Entry}
 use Rattle.queue.specs.Entries.{sooner}
 use Rattle.queue.specs.Order.{ordered}
 use Rattle.theory.specs.Lists.{All, Any}
 use Rattle.theory.specs.Tasks.{Task, Valid}
 use Rattle.theory.specs.Ticks.{Row, tasks}
-use Rattle.theory.proofs.Ticks.{length_tasks}
+use Rattle.theory.proofs.Lists.{all_imp}
 use Rattle.units.specs.Calls.{ask_with}
 use Rattle.units.specs.Meaning.{Meaning, Nature}
 use Rattle.machine.specs.Begin.{firsts, put_all, opening, begun}
@@ -17,13 +17,13 @@ use Rattle.machine.specs.Machine.{Lags}
 use Rattle.machine.specs.Plans.{Plan, Planned}
 use Rattle.machine.proofs.Accepted.{Accepted}
 use Rattle.machine.proofs.Holds.{tallies, Holds, passing, settle_holds}
-use Rattle.machine.proofs.Lists.{Pairs, all_imp, all_ordered, any_here, any_there}
+use Rattle.machine.proofs.Lists.{Pairs, all_ordered, any_here, any_there}
 use Rattle.machine.proofs.Load.{Sound, Passing, sound_anew}
 use Rattle.machine.proofs.Orders.{Apart, sorted_with}
 use Rattle.machine.proofs.Records.{Kept}
 use Rattle.machine.proofs.Rows.{row_at, valid_at}
-use Rattle.machine.proofs.Shape.{Waits, Delayed, Shape, none_some}
-use Rattle.machine.proofs.Unit.{ahead, ahead_lag}
+use Rattle.machine.proofs.Shape.{Waits, Delayed, Shape}
+use Rattle.machine.proofs.Unit.{ahead}
 
 -- What holds of every row that is put, and of those that were there, holds of all.
 put_has : (P : Entry → Type 0) (i : ℕ) (bs : List ℕ) (d : List Entry) → ((k j : ℕ) → k < length bs → j ≡ i + k → P (release_at (get_or bs k 0) j)) → All P d → All P (put_all i bs d)
@@ -36,9 +36,7 @@ put_has P i (b ∷ bs) d h a =
 put_sorted : (i : ℕ) (bs : List ℕ) (d : List Entry) → All (λ e. e.row < i) d → Pairs Apart d → Pairs Apart (put_all i bs d)
 put_sorted i [] d a s = s
 put_sorted i (b ∷ bs) d a s =
-    put_sorted (suc i) bs (ordered sooner (release_at b i) d)
-    (all_ordered sooner (release_at b i) (λ e. e.row < suc i) d (omega arith) (all_imp (λ e. e.row < i) (λ e. e.row < suc i) (λ e h. omega arith) d a))
-    (sorted_with (release_at b i) d (all_imp (λ e. e.row < i) (λ e. e.row ≢ i) (λ e h eq. omega arith) d a) s)
+    put_sorted (suc i) bs (ordered sooner (release_at b i) d) (grind (arith, all_ordered, all_imp)) (grind (arith, sorted_with, all_imp))
 
 -- What was there stays there.
 put_keeps : (P : Entry → Type 0) (i : ℕ) (bs : List ℕ) (d : List Entry) → Any P d → Any P (put_all i bs d)
@@ -90,15 +88,13 @@ begin_holds x p starts l u planned within a =
     table = first_tasks p.tasks bs a.size
 
     size : length rows ≡ length bs
-    size = omega (arith, length_tasks rows, ap length table, a.size)
+    size = omega (arith, length-map rows (λ r. r.task), ap length table, a.size)
 
     waits : (k : ℕ) → k < length rows → Waits (get_or bs k 0) (row_at rows k)
     waits k h = first_waits p.tasks bs k h
 
     low : ahead x.wake u' ≤ x.raise
-    low =
-        let lag_low : u'.lag ≤ x.raise = cond_both (ltb u.asked p.admitted) l.back u.lag (λ y. y ≤ x.raise) (λ _. within) (λ _. omega (arith, a.lag)) in
-        omega (arith, ahead_lag x.wake u' a.rest)
+    low = grind arith
 
     shape : Shape rows (put_all 0 bs []) [] None
     shape = record {
@@ -109,7 +105,7 @@ begin_holds x p starts l u planned within a =
           subst (λ (m : ℕ). Delayed rows (release_at (get_or bs k 0) m)) same (omega (arith, size), waits k (omega (arith, size)))) tt;
       rising = tt;
       queued = tt;
-      acting = λ i e. absurd (none_some i e);
+      acting = grind arith;
       placed = λ k h. inl ((waits k h).0, put_there 0 bs [] k k (omega (arith, size)) (omega arith));
     }
 
@@ -117,9 +113,7 @@ begin_holds x p starts l u planned within a =
     kept = record {
       table = table;
       size = omega (arith, length-replicate 32 no_job, planned.few, size, a.size);
-      fits = λ k h.
-          let w = waits k h in
-          record { waits = λ _. (omega (arith, w.1), refl); lives = λ some. absurd (omega (arith, w.0)) };
+      fits = λ k h. let w = waits k h in record { waits = grind arith; lives = grind arith };
     }
 
     sound : Sound p.admitted 0 x.raise rows

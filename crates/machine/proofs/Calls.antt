@@ -1,6 +1,6 @@
 -- Every word keeps what holds.
-use Rattle.std.proofs.Common.{◌≡◌, ℕ, suc, ◌-◌, ◌*◌, ◌<◌, ◌≤◌, Bool, true, eqb, leb, List, ◌∷◌, length, Some, None, Option, sym, refl, ap, ◌∙◌, subst, inl, inr, ⊎_elim, arith}
-use Rattle.std.proofs.lemmas.Bool.{cases_lt, cond_both, cond-false, eqb-true, ne_eqb}
+use Rattle.std.proofs.Common.{◌≡◌, ℕ, suc, ◌-◌, ◌<◌, ◌≤◌, Bool, true, List, ◌∷◌, length, Some, None, Option, sym, refl, ap, subst, inl, inr, arith, nat_le, ◌==◌}
+use Rattle.std.proofs.lemmas.Bool.{cases_lt, cond_both}
 use Rattle.fault.specs.declared.Fault.{Fault}
 use Rattle.fault.specs.declared.Refusal.TheVariants.{CountFull, NothingGiven}
 use Rattle.fault.specs.Faults.{fault_at}
@@ -15,18 +15,18 @@ use Rattle.machine.specs.declared.word.Outcome.TheVariants.{Going}
 use Rattle.machine.specs.declared.word.Reply.TheVariants.{Ran, Refused}
 use Rattle.machine.specs.declared.word.Word.{Word}
 use Rattle.machine.specs.declared.word.Word.TheVariants.{GoOn, Ended, Standing}
-use Rattle.machine.specs.History.{History, gets, count, says_ended}
+use Rattle.machine.specs.History.{History, count, says_ended}
 use Rattle.machine.specs.Inner.{Inner}
 use Rattle.machine.specs.Machine.{State, Now, Lags, Within, Result, pass, same, run_row, run_none, run_active, tick, step}
-use Rattle.machine.specs.Plans.{Plan, Planned, task_at}
+use Rattle.machine.specs.Plans.{Plan, Planned}
 use Rattle.machine.proofs.Holds.{tallies, state_of, Holds, passing, settle_holds}
-use Rattle.machine.proofs.Load.{Passing, sound_anew}
+use Rattle.machine.proofs.Load.{sound_anew}
 use Rattle.machine.proofs.Records.{kept_told}
 use Rattle.machine.proofs.Rows.{row_at}
 use Rattle.machine.proofs.Settle.{AtFull, AtSlow, Mode, Held, full_works}
-use Rattle.machine.proofs.Shape.{none_active, some_same, none_some}
+use Rattle.machine.proofs.Shape.{none_active}
 use Rattle.machine.proofs.Steps.{full_row, slow_row}
-use Rattle.machine.proofs.Unit.{ahead, works_is, tick_ahead}
+use Rattle.machine.proofs.Unit.{ahead, tick_ahead}
 
 module _ (x : Nature) (p : Plan) (planned : Planned p) (takes : x.takes p.admitted ≡ true) (first : List ℕ) (l : Lags)
     (within : Within x l) (word : Word) (h : History) (u : Meaning) (n : ℕ) (told : n ≡ count h) where
@@ -43,7 +43,7 @@ module _ (x : Nature) (p : Plan) (planned : Planned p) (takes : x.takes p.admitt
   -- A refused word changes nothing.
   unchanged : (s : Inner) (pace : Pace) (e : Fault) → Held x p first (tallies p h) n s (record { pace = pace; unit = u }) →
       After (record { reply = Refused e; now = same (state_of x n s pace) u })
-  unchanged s pace e held = record { n = n; s = s; pace = pace; is = refl; told = told; held = held }
+  unchanged s pace e held = grind arith
 
   -- A tick in which no row runs.
   idle : (s : Inner) (held : Held x p first (tallies p h) n s (record { pace = Full; unit = u })) →
@@ -58,9 +58,9 @@ module _ (x : Nature) (p : Plan) (planned : Planned p) (takes : x.takes p.admitt
       (record {
         shape = held.shape;
         kept = kept_told p.tasks first (tallies p h) (tallies p h') s.jobs rows
-            (λ k. cond-false (eqb 0 (suc k)) (gets (task_at p.tasks k) said 0 (tallies p h k)) (tallies p h k) (ne_eqb 0 (suc k) (λ e. omega arith))) held.kept;
-        sound = sound_anew f (suc n) (ahead x.wake u') rows (subst (Passing f) (sym held.kept.table) (passing p planned)) a.sound.valid
-            (λ k hk. (none k hk, ⊎_elim (λ b. omega (arith, (a.sound.quiet b k hk).1, fewer)) (λ b. omega (arith, held.later k hk, fewer)) (cases_lt 0 (ahead x.wake u))));
+            (λ k. grind arith) held.kept;
+        sound = sound_anew f (suc n) (ahead x.wake u') rows (grind (arith, passing)) a.sound.valid
+            (λ k hk. grind (arith, none k, fewer, held.later k, cases_lt 0 (ahead x.wake u)));
       })
       a.asked (omega arith))
     where
@@ -84,20 +84,16 @@ module _ (x : Nature) (p : Plan) (planned : Planned p) (takes : x.takes p.admitt
   runs_full : (d q : List Entry) (i : ℕ) (js : List Job) (held : Held x p first (tallies p h) n (inner d q (Some i) js) (record { pace = Full; unit = u })) →
       AtFull f x.wake n held.rows (record { pace = Full; unit = u }) → After (run_active x p l said (Some i) (state_of x n (inner d q (Some i) js) Full) u)
   runs_full d q i js held a =
-      cond_both {A = Result} (eqb (works u) 0) (run_none x p l said (state_of x n (inner d q (Some i) js) Full) u) (run_row x p l said i (state_of x n (inner d q (Some i) js) Full) u) After
-      (λ e.
-      let act = held.shape.acting i refl in
-      absurd (omega (arith, eqb-true (works u) 0 e, (full_works f x.wake n held.rows (record { pace = Full; unit = u }) a i act.0 act.1).1, planned.level)))
+      cond_both {A = Result} (works u == 0) (run_none x p l said (state_of x n (inner d q (Some i) js) Full) u) (run_row x p l said i (state_of x n (inner d q (Some i) js) Full) u) After
+      (λ e. let act = held.shape.acting i refl in grind (arith, full_works))
       (λ _. full_row x p planned takes first l within word h n told u held.rows d q js i held.shape held.chosen held.kept held.later a)
 
   -- A tick with an active row, at a lower level: that row runs.
   runs_slow : (d q : List Entry) (i : ℕ) (js : List Job) (held : Held x p first (tallies p h) n (inner d q (Some i) js) (record { pace = Slowed i; unit = u })) →
       AtSlow f x.raise n held.rows q (Some i) i (record { pace = Slowed i; unit = u }) → After (run_active x p l said (Some i) (state_of x n (inner d q (Some i) js) (Slowed i)) u)
   runs_slow d q i js held b =
-      cond_both {A = Result} (eqb (works u) 0) (run_none x p l said (state_of x n (inner d q (Some i) js) (Slowed i)) u) (run_row x p l said i (state_of x n (inner d q (Some i) js) (Slowed i)) u) After
-      (λ e.
-      let z : u.asked ≡ 0 = sym (works_is u b.rest b.lag) ∙ eqb-true (works u) 0 e in
-      absurd (omega (arith, b.enough, (held.shape.acting i refl).1, ap (λ (y : ℕ). y * b.window) z)))
+      cond_both {A = Result} (works u == 0) (run_none x p l said (state_of x n (inner d q (Some i) js) (Slowed i)) u) (run_row x p l said i (state_of x n (inner d q (Some i) js) (Slowed i)) u) After
+      (λ e. let act = held.shape.acting i refl in let z : u.asked ≡ 0 = grind arith in grind arith)
       (λ _. slow_row x p planned takes first l within word h n told u held.rows d q js i held.shape held.chosen held.kept held.later b)
 
   -- A tick keeps what holds, whatever the active row.
@@ -112,7 +108,7 @@ module _ (x : Nature) (p : Plan) (planned : Planned p) (takes : x.takes p.admitt
           (idle (inner d q None js)
           (record { rows = held.rows; shape = held.shape; chosen = held.chosen; kept = held.kept; later = held.later; mode = inl a' })
           (none_active held.rows d q held.shape held.chosen) a')
-      by (inr (i, b)) = absurd (none_some i b.active)
+      by (inr (i, b)) = grind arith
   active_holds d q (Some j) js pace held = by held.mode
     where
       by : Mode f x.raise x.wake n held.rows (inner d q (Some j) js) (record { pace = pace; unit = u }) →
@@ -123,7 +119,7 @@ module _ (x : Nature) (p : Plan) (planned : Planned p) (takes : x.takes p.admitt
           (runs_full d q j js
           (record { rows = held.rows; shape = held.shape; chosen = held.chosen; kept = held.kept; later = held.later; mode = inl a' }) a')
       by (inr (i, b)) =
-          let b₁ = subst (λ (y : ℕ). AtSlow f x.raise n held.rows q (Some j) y (record { pace = pace; unit = u })) (sym (some_same j i b.active)) b in
+          let b₁ = subst (λ (y : ℕ). AtSlow f x.raise n held.rows q (Some j) y (record { pace = pace; unit = u })) (grind arith) b in
           let b₂ : AtSlow f x.raise n held.rows q (Some j) j (record { pace = Slowed j; unit = u }) = record {
             window = b₁.window;
             pace = refl;
@@ -143,7 +139,7 @@ module _ (x : Nature) (p : Plan) (planned : Planned p) (takes : x.takes p.admitt
   -- A tick keeps what holds, also where the count is at its end.
   tick_holds : (s : Inner) (pace : Pace) → Held x p first (tallies p h) n s (record { pace = pace; unit = u }) → After (tick x p l said (state_of x n s pace) u)
   tick_holds s pace held =
-      cond_both {A = Result} (leb 1000000000 n) (record { reply = Refused (fault_at CountFull 0 0); now = same (state_of x n s pace) u })
+      cond_both {A = Result} (nat_le 1000000000 n) (record { reply = Refused (fault_at CountFull 0 0); now = same (state_of x n s pace) u })
       (run_active x p l said s.active (state_of x n s pace) u) After (λ _. unchanged s pace (fault_at CountFull 0 0) held)
       (λ _. active_holds s.delay s.queue s.active s.jobs pace held)
 

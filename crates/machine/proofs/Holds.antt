@@ -1,20 +1,19 @@
 -- What holds of a run with its history, and that it holds after a settling.
-use Rattle.std.proofs.Common.{◌≡◌, ℕ, ◌<◌, ◌≤◌, true, ltb, List, sym, refl, subst, arith}
-use Rattle.std.proofs.lemmas.Bool.{cond-true, lt-ltb, and_from}
+use Rattle.std.proofs.Common.{◌≡◌, ℕ, ◌<◌, ◌≤◌, true, List, sym, refl, subst, arith, rules}
 use Rattle.theory.specs.Ticks.{Row}
 use Rattle.units.specs.Calls.{ask_with}
-use Rattle.units.specs.Meaning.{Meaning, Nature, ready}
+use Rattle.units.specs.Meaning.{Meaning, Nature}
 use Rattle.machine.specs.declared.job.Pace.{Pace}
 use Rattle.machine.specs.declared.job.Pace.TheVariants.{Full, Over}
 use Rattle.machine.specs.History.{Tally, History, tally, count}
 use Rattle.machine.specs.Inner.{Inner, release_due, elect}
 use Rattle.machine.specs.Machine.{State, Now, Lags, settle}
 use Rattle.machine.specs.Plans.{Plan, Planned, task_at}
-use Rattle.machine.specs.Speed.{Speed, may_ask, ask_back, spared}
+use Rattle.machine.specs.Speed.{Speed, ask_back, spared}
 use Rattle.machine.proofs.Load.{Passing}
 use Rattle.machine.proofs.Releases.{Stage}
 use Rattle.machine.proofs.Settle.{Held, settle_full}
-use Rattle.machine.proofs.Unit.{ahead, ahead_lag, ready_from}
+use Rattle.machine.proofs.Unit.{ahead, ahead_lag}
 
 -- What the history tells of each row.
 abbrev pub tallies : Plan → History → ℕ → Tally
@@ -49,7 +48,7 @@ settle_holds x p first planned l n a h s rows u told g asked le =
       pace = w.pace;
       is = refl;
       told = told;
-      held = settle_full x p l.slowed n a first (tallies p h) (passing p planned) s rows g u asked le;
+      held = search (rules, settle_full, passing);
     }
 
 -- It holds after a settling that asks for the admitted level again, since a slowed job is finished.
@@ -65,7 +64,7 @@ settle_over x p first planned takes l n h s rows u told le r g below stage =
       is = refl;
       told = told;
       held = subst (λ (y : Speed). Held x p first (tallies p h) n s' (spared x p l.slowed n x.raise x.wake s' y.pace y.unit)) (sym back)
-          (settle_full x p l.slowed n x.raise first (tallies p h) (passing p planned) s rows stage u' refl (omega (arith, ahead_lag x.wake u' r, lag_is)));
+          (grind (arith, settle_full, passing, ahead_lag));
     }
   where
     s' : Inner
@@ -78,8 +77,4 @@ settle_over x p first planned takes l n h s rows u told le r g below stage =
     u' = ask_with l.back p.admitted u
 
     back : v ≡ record { pace = Full; unit = u' }
-    back = cond-true (may_ask x p.admitted u) (record { pace = Full; unit = u' }) (record { pace = Over; unit = u })
-        (and_from (ready u) (x.takes p.admitted) (ready_from u r g) takes)
-
-    lag_is : u'.lag ≡ l.back
-    lag_is = cond-true (ltb u.asked p.admitted) l.back u.lag (lt-ltb u.asked p.admitted below)
+    back = grind arith

@@ -1,24 +1,14 @@
 -- Lists: pairs in order, what an ordered put keeps, and what stands at a place.
 use Rattle.std.proofs.Common.{◌≡◌, ℕ, zero, suc, ◌<◌, ◌≤◌, Bool, true, false, List, [], ◌∷◌, length, get_or, set, inl, inr, ⊎_elim, arith}
-use Rattle.std.proofs.lemmas.Bool.{cond_both}
 use Rattle.queue.specs.Order.{ordered}
 use Rattle.theory.specs.Lists.{All, Any}
+use Rattle.theory.proofs.Lists.{all_two}
 use Rattle.theory.proofs.Places.{sum_to, At}
 
 -- R holds of each entry and every later one.
 abbrev pub Pairs : {X : Type 0} → (X → X → Type 0) → List X → Type 0
 Pairs R [] = Unit {0}
 Pairs R (x ∷ xs) = All (R x) xs × Pairs R xs
-
--- What follows from P at every element follows of all.
-pub all_imp : {X : Type 0} (P Q : X → Type 0) → ((x : X) → P x → Q x) → (xs : List X) → All P xs → All Q xs
-all_imp P Q h [] a = tt
-all_imp P Q h (x ∷ xs) a = (h x a.0, all_imp P Q h xs a.1)
-
--- What follows from P and Q at every element follows of all.
-pub all_two : {X : Type 0} (P Q R : X → Type 0) → ((x : X) → P x → Q x → R x) → (xs : List X) → All P xs → All Q xs → All R xs
-all_two P Q R h [] a b = tt
-all_two P Q R h (x ∷ xs) a b = (h x a.0 b.0, all_two P Q R h xs a.1 b.1)
 
 -- An element that is there has what all have.
 pub any_all : {X : Type 0} (P Q : X → Type 0) (C : Type 0) → ((x : X) → P x → Q x → C) → (xs : List X) → Any P xs → All Q xs → C
@@ -30,7 +20,7 @@ module _ {E : Type 0} (before : E → E → Bool) (x : E) where
   -- What holds of a list whether or not its head stays before x holds of the list with x in its place.
   by_ordered : (y : E) (ys : List E) (P : List E → Type 0) →
       (before y x ≡ true → P (y ∷ ordered before x ys)) → (before y x ≡ false → P (x ∷ y ∷ ys)) → P (ordered before x (y ∷ ys))
-  by_ordered y ys P p q = cond_both (before y x) (y ∷ ordered before x ys) (x ∷ y ∷ ys) P p q
+  by_ordered y ys P p q = grind arith
 
   -- What holds of x and of all holds of all with x in its place.
   pub all_ordered : (P : E → Type 0) (xs : List E) → P x → All P xs → All P (ordered before x xs)
@@ -54,9 +44,7 @@ module _ {E : Type 0} (before : E → E → Bool) (x : E) where
   pairs_ordered R Q up down far (y ∷ ys) q a =
       by_ordered y ys (Pairs R)
       (λ e. (all_ordered (R y) ys (up y q.0 e) a.0, pairs_ordered R Q up down far ys q.1 a.1))
-      (λ e.
-      let r : R x y = down y q.0 e in
-      ((r, all_two Q (R y) (R x) (λ z qz rz. far y z qz r rz) ys q.1 a.0), (a.0, a.1)))
+      (grind (arith, all_two))
 
 -- What holds of all holds of the element at a place.
 pub all_at : {X : Type 0} (P : X → Type 0) (d : X) (xs : List X) → All P xs → (k : ℕ) → k < length xs → P (get_or xs k d)

@@ -1,13 +1,13 @@
 -- The theory's invariant of each row, under the writes that a run makes: a release, a service, a new start.
-use Rattle.std.proofs.Common.{◌≡◌, ℕ, zero, suc, ◌+◌, ◌<◌, ◌≤◌, Bool, eqb, List, [], ◌∷◌, length, set, sym, refl, ap, subst, ⊎_elim, arith, length-set}
-use Rattle.std.proofs.lemmas.Bool.{cases_lt, cond-true, eq-eqb}
+use Rattle.std.proofs.Common.{◌≡◌, ℕ, zero, suc, ◌+◌, ◌<◌, ◌≤◌, Bool, List, [], ◌∷◌, length, set, refl, ap, subst, arith, length-set}
+use Rattle.std.proofs.lemmas.List.{length-map}
 use Rattle.theory.specs.Lists.{All}
 use Rattle.theory.specs.Tasks.{Task, Valid, cdiv}
 use Rattle.theory.specs.Theorems.{EveryRowFits}
-use Rattle.theory.specs.Ticks.{Row, fresh, released, given, serve, tasks}
+use Rattle.theory.specs.Ticks.{Row, fresh, released, given, tasks}
 use Rattle.theory.proofs.Cdiv.{cdiv_none}
-use Rattle.theory.proofs.Places.{sum_to, at_imp, at_serve, all_serve, tasks_serve, PassAt, pass_at}
-use Rattle.theory.proofs.Ticks.{left, owed, Good, Aims, Inv, left_owed, owed_released, owed_serve, still, anew, length_tasks}
+use Rattle.theory.proofs.Places.{sum_to, PassAt, pass_at}
+use Rattle.theory.proofs.Ticks.{left, owed, Good, Aims, Inv, owed_released, anew, inv_serve}
 use Rattle.machine.proofs.Lists.{all_by, at_get, at_set, sum_set}
 use Rattle.machine.proofs.Rows.{no_row, row_at, each_set, serve_is}
 
@@ -35,14 +35,14 @@ none_left f (suc m) (r ∷ rows) hf z =
 
 -- Where every row fits, so does the one at each place.
 passing_at : (f k : ℕ) (rows : List Row) → Passing f (tasks rows) → k < length rows → PassAt f k (tasks rows)
-passing_at f k rows p h = pass_at f (tasks rows) p.1 k (omega (arith, length_tasks rows))
+passing_at f k rows p h = grind (arith, pass_at, length-map)
 
 -- With nothing unfinished, all is set anew.
 pub sound_anew : (f n a : ℕ) (rows : List Row) → Passing f (tasks rows) → ((k : ℕ) → k < length rows → Valid (row_at rows k).task) →
     ((k : ℕ) → k < length rows → ((row_at rows k).rem ≡ 0) × (n + a ≤ (row_at rows k).next)) → Sound f n a rows
 sound_anew f n a rows p v z = record {
   valid = v;
-  coming = λ k h. omega (arith, (z k h).1);
+  coming = grind arith;
   inv = λ k h. anew f n k rows p.0 (all_good n rows v (λ j b. omega (arith, (z j b).1))) (passing_at f k rows p h)
       (none_left f (suc k) rows p.0 (λ j b. (z j b).0));
   quiet = λ _. z;
@@ -61,7 +61,7 @@ sound_fresh f n a rows i p hi due s = record {
   valid = each_set (λ _ r. Valid r.task) rows i v (s.valid i hi) (λ k h _. s.valid k h);
   coming = each_set (λ _ r. n ≤ r.next) rows i v (omega arith) (λ k h _. s.coming k h);
   inv = λ k h. moved k (s.inv k (omega (arith, length-set rows i v)));
-  quiet = λ pos. absurd (omega (arith, (s.quiet pos i hi).1));
+  quiet = grind arith;
 }
   where
     r : Row
@@ -74,7 +74,7 @@ sound_fresh f n a rows i p hi due s = record {
     next_is = omega (arith, s.coming i hi)
 
     same : released n r ≡ v
-    same = cond-true (eqb r.next n) (fresh n r) r (eq-eqb r.next n next_is)
+    same = grind arith
 
     moved : (k : ℕ) → Inv f n k rows → Inv f n k (set rows i v)
     moved k (e, before, fits, aims) = (
@@ -83,23 +83,6 @@ sound_fresh f n a rows i p hi due s = record {
       omega (arith, sum_set (owed f e) no_row v (suc k) i rows hi (subst (λ (x : Row). owed f e x ≤ owed f e r) same (owed_released f n e r p.0 before (s.valid i hi)))),
       at_set (Aims n e) no_row v k i rows (λ h. (h.0, λ _. h.0)) aims,
     )
-
--- A tick at the level f for the first unfinished job keeps the target, or leaves nothing, so that there is a new one.
-inv_serve : (f : ℕ) (b : Bool) (n i : ℕ) (s : List Row) → 1 ≤ f → All (Good (suc n)) s → PassAt f i (tasks s) → Inv f n i s → Inv f (suc n) i (serve f b s)
-inv_serve f b n i s hf g pass (e, before, fits, aims) = ⊎_elim on idle (cases_lt 0 (sum_to (left f) (suc i) (serve f b s)))
-  where
-    on : 0 < sum_to (left f) (suc i) (serve f b s) → Inv f (suc n) i (serve f b s)
-    on h =
-        let less = owed_serve f e b (suc i) s hf h in (
-          e,
-          omega (arith, left_owed f e (suc i) (serve f b s)),
-          omega arith,
-          at_imp (Aims n e) (Aims (suc n) e) (λ r a. (omega arith, a.1)) i (serve f b s)
-              (at_serve f b (Aims n e) (λ r a. (a.0, λ k. a.1 (still f b r k))) i s aims),
-        )
-
-    idle : sum_to (left f) (suc i) (serve f b s) ≤ 0 → Inv f (suc n) i (serve f b s)
-    idle h = anew f (suc n) i (serve f b s) hf (all_serve f b (Good (suc n)) (λ r a. a) s g) (subst (PassAt f i) (sym (tasks_serve f b s)) pass) (omega arith)
 
 -- A tick at the level f for the first unfinished job leads to sound rows at the next tick.
 pub sound_serve : (f : ℕ) (b : Bool) (n a : ℕ) (rows : List Row) (i : ℕ) → Passing f (tasks rows) → i < length rows → 0 < (row_at rows i).rem →
@@ -111,7 +94,7 @@ sound_serve f b n a rows i p hi some first later s = record {
   inv = λ k h.
       let h' : k < length rows = omega (arith, length-set rows i v) in
       subst (Inv f (suc n) k) (serve_is f b i rows hi some first)
-      (inv_serve f b n k rows p.0 (all_good (suc n) rows s.valid later) (passing_at f k rows p h') (s.inv k h'));
+      (grind (arith, inv_serve, all_good, passing_at));
   quiet = λ pos. absurd (omega arith);
 }
   where

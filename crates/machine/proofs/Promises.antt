@@ -1,15 +1,14 @@
 -- The promises, from what holds of every run with its history.
-use Rattle.std.proofs.Common.{◌≡◌, ℕ, suc, ◌+◌, ◌*◌, ◌<◌, ◌≤◌, true, List, [], ◌∷◌, length, get_or, sym, ap, ◌∙◌, subst, inl, inr, ⊎_elim, mul-le-mul_right, arith}
-use Rattle.std.proofs.lemmas.Bool.{cases_lt, cases_eq}
-use Rattle.theory.specs.Lists.{All}
+use Rattle.std.proofs.Common.{◌≡◌, ℕ, ◌+◌, ◌*◌, ◌<◌, ◌≤◌, true, List, [], ◌∷◌, length, get_or, sym, ap, ◌∙◌, subst, inl, inr, ⊎_elim, arith, rules}
+use Rattle.std.proofs.lemmas.Bool.{cases_eq}
+use Rattle.std.proofs.lemmas.List.{length-map}
 use Rattle.theory.specs.Tasks.{Task, Valid}
 use Rattle.theory.specs.Ticks.{Row}
-use Rattle.theory.proofs.Ticks.{length_tasks}
 use Rattle.units.specs.Meaning.{Meaning, Nature, works}
 use Rattle.machine.specs.Begin.{firsts}
 use Rattle.machine.specs.History.{History, Unfinished, Late, release_of}
 use Rattle.machine.specs.Inner.{job_at}
-use Rattle.machine.specs.Machine.{State, Now, Result}
+use Rattle.machine.specs.Machine.{Now, Result}
 use Rattle.machine.specs.Plans.{Plan, Planned, task_at}
 use Rattle.machine.specs.Promises.{EveryRunIsLawful}
 use Rattle.machine.specs.Reached.{Reached}
@@ -22,7 +21,7 @@ use Rattle.machine.proofs.Load.{sound_due}
 use Rattle.machine.proofs.Records.{Fits}
 use Rattle.machine.proofs.Rows.{row_at, task_is, valid_at}
 use Rattle.machine.proofs.Settle.{Mode, full_works}
-use Rattle.machine.proofs.Unit.{ahead, ahead_ready}
+use Rattle.machine.proofs.Unit.{ahead}
 
 -- An admitted plan whose level the unit takes, and a run of it of which all holds that should.
 record Runs (x : Nature) (p : Plan) (starts : List ℕ) (h : History) (now : Now) : Type 0 where
@@ -32,21 +31,14 @@ record Runs (x : Nature) (p : Plan) (starts : List ℕ) (h : History) (now : Now
 
 -- Every history that an accepted begin can lead to is one of such a run.
 reach_holds : (x : Nature) (p : Plan) (starts : List ℕ) (u : Meaning) (h : History) (now : Now) → Reached x p starts u h now → Runs x p starts h now
-reach_holds x p starts u [] now began =
-    let a = accepted x p starts u began.planned began.accepted in
-    record {
-      planned = began.planned;
-      takes = a.takes;
-      holds = subst (λ (y : Now). Holds x p (firsts x.raise p.tasks starts) [] y) began.is
-          (begin_holds x p starts began.lags u began.planned began.within.back a);
-    }
+reach_holds x p starts u [] now began = grind (arith, accepted, begin_holds)
 reach_holds x p starts u (e ∷ h) now (before, reached, said) =
     let a = reach_holds x p starts u h before reached in
     record {
       planned = a.planned;
       takes = a.takes;
       holds = subst (λ (y : Result). Holds x p (firsts x.raise p.tasks starts) (record { word = e.word; reply = y.reply } ∷ h) y.now) said.is
-          (step_holds x p a.planned a.takes (firsts x.raise p.tasks starts) said.lags said.within e.word h before a.holds);
+          (grind (arith, step_holds));
     }
 
 module _ (x : Nature) (p : Plan) (planned : Planned p) (first : List ℕ) (h : History) (now : Now) (a : Holds x p first h now) where
@@ -68,15 +60,15 @@ module _ (x : Nature) (p : Plan) (planned : Planned p) (first : List ℕ) (h : H
 
   -- Each row of the table is one of the rows.
   in_rows : (i : ℕ) → i < length ts → i < length rows
-  in_rows i hi = omega (arith, length_tasks rows, ap length a.held.kept.table)
+  in_rows i hi = grind (arith, length-map)
 
   -- It has the task of the table.
   task_same : (i : ℕ) → i < length ts → (row_at rows i).task ≡ task_at ts i
-  task_same i hi = task_is ts rows a.held.kept.table i (in_rows i hi)
+  task_same i hi = search (rules, task_is, in_rows)
 
   -- The task is valid.
   valid : (i : ℕ) → i < length ts → Valid (task_at ts i)
-  valid i hi = subst Valid (task_same i hi) (valid_at rows (subst (All Valid) (sym a.held.kept.table) planned.valid) i (in_rows i hi))
+  valid i hi = subst Valid (task_same i hi) (valid_at rows (grind arith) i (in_rows i hi))
 
   -- The record of a row fits.
   fits : (i : ℕ) → i < length ts → Fits (get_or first i 0) (tallies p h i) (job_at a.s.jobs i) (row_at rows i)
@@ -84,7 +76,7 @@ module _ (x : Nature) (p : Plan) (planned : Planned p) (first : List ℕ) (h : H
 
   -- The first unfinished job's release, as the theory's row has it and as the history tells it.
   release_is : (i : ℕ) → i < length ts → get_or first i 0 + fin i * (row_at rows i).task.period ≡ release_of ts first i (fin i)
-  release_is i hi = ap (λ (y : Task). get_or first i 0 + fin i * y.period) (task_same i hi)
+  release_is i hi = grind (arith, task_same)
 
   -- The first unfinished job of a row that waits is still to be released.
   waits : (i : ℕ) → i < length ts → (row_at rows i).rem ≡ 0 → n < release_of ts first i (fin i)
@@ -96,43 +88,24 @@ module _ (x : Nature) (p : Plan) (planned : Planned p) (first : List ℕ) (h : H
     where
       by : Mode p.admitted x.raise x.wake n rows a.s speed → n < (row_at rows i).due
       by (inl m) = sound_due p.admitted n (ahead x.wake now.unit) rows m.sound i (in_rows i hi) some
-      by (inr (j, m)) =
-          ⊎_elim
-          (λ e. subst (λ (k : ℕ). n < (row_at rows k).due) (sym e)
-          (⊎_elim (λ w. omega (arith, m.due, w))
-          (λ w.
-          let z : m.window ≡ 0 = omega (arith, w) in
-          absurd (omega (arith, m.enough, some, ap (λ (k : ℕ). (row_at rows k).rem) e, ap (λ (k : ℕ). now.unit.asked * k) z))) (cases_lt 0 m.window)))
-          (λ ne. absurd (omega (arith, some, (m.others i (in_rows i hi) ne).0))) (cases_eq i j)
+      by (inr (j, m)) = ⊎_elim (λ e. grind arith) (λ ne. absurd (omega (arith, some, (m.others i (in_rows i hi) ne).0))) (cases_eq i j)
 
   -- The first unfinished job of a row is not late, as the history tells.
   first_due : (i : ℕ) → i < length ts → n < release_of ts first i (fin i) + (task_at ts i).deadline
   first_due i hi =
-      ⊎_elim
-      (λ some.
-      let live = (fits i hi).lives some in
-      omega (arith, due_later i hi some, release_is i hi, ap (λ (y : Task). y.deadline) (task_same i hi)))
-      (λ none. omega (arith, waits i hi (omega arith))) (cases_lt 0 (row_at rows i).rem)
+      grind (arith, fits i hi, due_later i hi, release_is i hi, task_same i hi, waits i hi)
 
   -- A later job of a row is released later.
   release_grows : (i j k : ℕ) → j ≤ k → release_of ts first i j ≤ release_of ts first i k
-  release_grows i j k le = omega (arith, mul-le-mul_right (task_at ts i).period le)
+  release_grows i j k le = grind arith
 
   -- No job is late.
   none_late : (i k : ℕ) → ¬ (Late ts first h i k)
-  none_late i k ((hi, open', out), late) = omega (arith, first_due i hi, release_grows i (fin i) k open', a.told, late)
+  none_late i k ((hi, open', out), late) = grind (arith, first_due, release_grows)
 
   -- An unfinished job is the first of its row, and has units left.
   first_only : (i k : ℕ) → Unfinished ts first h i k → (k ≡ fin i) × (0 < (row_at rows i).rem)
-  first_only i k (hi, open', out) = (
-    ⊎_elim
-        (λ lt.
-        let v = valid i hi in
-        let more : release_of ts first i (suc (fin i)) ≤ release_of ts first i k = release_grows i (suc (fin i)) k (omega arith) in
-        absurd (omega (arith, first_due i hi, more, out, a.told, v.in_period)))
-        (λ le. omega (arith, open')) (cases_lt (fin i) k),
-    ⊎_elim (λ y. y) (λ none. absurd (omega (arith, waits i hi (omega arith), release_grows i (fin i) k open', out, a.told))) (cases_lt 0 (row_at rows i).rem),
-  )
+  first_only i k (hi, open', out) = search (rules, valid, release_grows, first_due, waits)
 
   -- While the unit rests or lags, no job is unfinished.
   none_asleep : 0 < now.unit.rest + now.unit.lag → (i k : ℕ) → ¬ (Unfinished ts first h i k)
@@ -141,8 +114,7 @@ module _ (x : Nature) (p : Plan) (planned : Planned p) (first : List ℕ) (h : H
       by : Mode p.admitted x.raise x.wake n rows a.s speed → ⊥
       by (inl m) =
           let some = (first_only i k (hi, open', out)).1 in
-          let z = ahead_ready x.wake now.unit (full_works p.admitted x.wake n rows speed m i (in_rows i hi) some).0 in
-          omega (arith, z.0, z.1)
+          let z = (full_works p.admitted x.wake n rows speed m i (in_rows i hi) some).0 in grind arith
       by (inr (j, m)) = omega (arith, m.rest, m.lag)
 
   -- While two jobs are unfinished, the unit works at the admitted level.
@@ -172,5 +144,5 @@ every_run_is_lawful x p starts u h now reached =
       on_time = none_late x p r.planned first h now r.holds;
       full = two_at_full x p r.planned first h now r.holds;
       idle = none_asleep x p r.planned first h now r.holds;
-      counted = ap (λ (s : State). s.count) r.holds.is ∙ r.holds.told;
+      counted = grind arith;
     }

@@ -1,14 +1,12 @@
 -- The records of the jobs fit the theory's rows and what the history tells: after a release, after units, and at a job's end.
-use Rattle.std.proofs.Common.{◌≡◌, ℕ, suc, ◌+◌, ◌-◌, ◌*◌, ◌<◌, ◌≤◌, Bool, false, ◌≢◌, List, length, get_or, set, sym, refl, ap, ◌∙◌, subst, ⊎_elim, arith, length-set}
-use Rattle.std.proofs.lemmas.List.{get_or-set_same, get_or-set_other}
-use Rattle.std.proofs.lemmas.Bool.{cases_eq, cond-false}
+use Rattle.std.proofs.Common.{◌≡◌, ℕ, suc, ◌+◌, ◌-◌, ◌*◌, ◌<◌, ◌≤◌, Bool, false, ◌≢◌, List, length, get_or, set, sym, refl, subst, arith, rules}
 use Rattle.theory.specs.Tasks.{Task, Valid}
 use Rattle.theory.specs.Ticks.{Row, fresh, given, tasks}
 use Rattle.machine.specs.declared.job.Job.{Job}
 use Rattle.machine.specs.History.{Tally}
-use Rattle.machine.specs.Inner.{given_more, no_job, job_at, new_job}
+use Rattle.machine.specs.Inner.{given_more, job_at, new_job}
 use Rattle.machine.specs.Plans.{task_at}
-use Rattle.machine.proofs.Rows.{no_row, row_at, tasks_set, task_is}
+use Rattle.machine.proofs.Rows.{row_at, tasks_set, task_is}
 use Rattle.machine.proofs.Shape.{Waits}
 
 -- An unfinished job: a is the row's first release, c what the history tells of the row, j the job's record, and r the theory's row.
@@ -31,58 +29,21 @@ pub record Kept (ts : List Task) (first : List ℕ) (c : ℕ → Tally) (js : Li
   pub size : length rows ≤ length js
   pub fits : (k : ℕ) → k < length rows → Fits (get_or first k 0) (c k) (job_at js k) (row_at rows k)
 
--- A fact of each row and its job holds after a write to both that has it.
-each_both : (P : ℕ → Job → Row → Type 0) (js : List Job) (rows : List Row) (i : ℕ) (j : Job) (v : Row) → length rows ≤ length js → P i j v →
-    ((k : ℕ) → k < length rows → k ≢ i → P k (job_at js k) (row_at rows k)) → (k : ℕ) → k < length (set rows i v) → P k (job_at (set js i j) k) (row_at (set rows i v) k)
-each_both P js rows i j v size here there k h =
-    let h' : k < length rows = omega (arith, length-set rows i v) in
-    ⊎_elim
-    (λ e. subst (λ (m : ℕ). P k (job_at (set js m j) k) (row_at (set rows m v) k)) e
-    (subst (λ (x : Job). P k x (row_at (set rows k v) k)) (sym (get_or-set_same js k j no_job (omega arith)))
-    (subst (λ (x : Row). P k j x) (sym (get_or-set_same rows k v no_row h')) (subst (λ (m : ℕ). P m j v) (sym e) here))))
-    (λ e. subst (λ (x : Job). P k x (row_at (set rows i v) k)) (sym (get_or-set_other js i k j no_job e))
-    (subst (λ (x : Row). P k (job_at js k) x) (sym (get_or-set_other rows i k v no_row e)) (there k h' e))) (cases_eq k i)
-
 -- Where the history tells the same of each row, the records still fit.
 pub kept_told : (ts : List Task) (first : List ℕ) (c c' : ℕ → Tally) (js : List Job) (rows : List Row) → ((k : ℕ) → c' k ≡ c k) → Kept ts first c js rows → Kept ts first c' js rows
-kept_told ts first c c' js rows e kept = record {
-  table = kept.table;
-  size = kept.size;
-  fits = λ k h. subst (λ (y : Tally). Fits (get_or first k 0) y (job_at js k) (row_at rows k)) (sym (e k)) (kept.fits k h);
-}
+kept_told ts first c c' js rows e kept = grind arith
 
 -- A write to a row and its record that keeps the task and fits keeps the records, where the history tells the same of the other rows.
 kept_set : (ts : List Task) (first : List ℕ) (c c' : ℕ → Tally) (js : List Job) (rows : List Row) (i : ℕ) (j : Job) (v : Row) → ((k : ℕ) → k ≢ i → c' k ≡ c k) →
     v.task ≡ (row_at rows i).task → Fits (get_or first i 0) (c' i) j v → Kept ts first c js rows → Kept ts first c' (set js i j) (set rows i v)
-kept_set ts first c c' js rows i j v others same here kept = record {
-  table = tasks_set v i rows same ∙ kept.table;
-  size = omega (arith, length-set js i j, length-set rows i v, kept.size);
-  fits = each_both (λ k x r. Fits (get_or first k 0) (c' k) x r) js rows i j v kept.size here
-      (λ k h ne. subst (λ (y : Tally). Fits (get_or first k 0) y (job_at js k) (row_at rows k)) (sym (others k ne)) (kept.fits k h));
-}
+kept_set ts first c c' js rows i j v others same here kept = search (rules, tasks_set)
 
 -- A release at tick n, where the row waits for it, keeps the records.
 pub kept_pop : (n t : ℕ) (ts : List Task) (first : List ℕ) (c : ℕ → Tally) (js : List Job) (rows : List Row) (i : ℕ) → Valid (row_at rows i).task → i < length rows →
     Waits n (row_at rows i) → t ≡ n → Kept ts first c js rows →
     Kept ts first c (set js i (new_job (task_at ts i) t)) (set rows i (fresh n (row_at rows i)))
 kept_pop n t ts first c js rows i valid hi w tn kept =
-    kept_set ts first c c js rows i (new_job (task_at ts i) t) (fresh n (row_at rows i)) (λ _ _. refl) refl
-    (let held = (kept.fits i hi).waits w.0 in
-    let is = task_is ts rows kept.table i hi in
-    let same_due = ap (λ (y : Task). y.deadline) is in
-    let same_next = ap (λ (y : Task). y.period) is in
-    record {
-      waits = λ z. absurd (omega arith);
-      lives = λ _. record {
-        left = omega arith;
-        due = omega arith;
-        next = omega arith;
-        due_is = omega (arith, w.1, held.0);
-        next_is = omega (arith, w.1, held.0);
-        units = held.1;
-      };
-    })
-    kept
+    kept_set ts first c c js rows i (new_job (task_at ts i) t) (fresh n (row_at rows i)) (λ _ _. refl) refl (grind (arith, task_is)) kept
 
 module _ (ts : List Task) (first : List ℕ) (c c' : ℕ → Tally) (js : List Job) (rows : List Row) (i m lv : ℕ) (said : Bool)
     (kept : Kept ts first c js rows) (hi : i < length rows) (pos : 0 < (row_at rows i).rem) (others : (k : ℕ) → k ≢ i → c' k ≡ c k) where
@@ -105,27 +66,10 @@ module _ (ts : List Task) (first : List ℕ) (c c' : ℕ → Tally) (js : List J
       Kept ts first c' (set js i j) (set rows i v)
   kept_on em es more told =
       let old = live in
-      let left : v.rem ≡ r.rem - lv = cond-false said 0 (r.rem - lv) es in
-      kept_set ts first c c' js rows i j v others refl
-      (subst (λ (y : Tally). Fits (get_or first i 0) y j v) (sym told)
-      (record {
-        waits = λ z. absurd (omega arith);
-        lives = λ _. record {
-          left = omega arith;
-          due = old.due;
-          next = old.next;
-          due_is = old.due_is;
-          next_is = old.next_is;
-          units = omega arith;
-        };
-      }))
-      kept
+      let left : v.rem ≡ r.rem - lv = grind arith in kept_set ts first c c' js rows i j v others refl (grind arith) kept
 
   -- The end of a job keeps the records.
   pub kept_end : v.rem ≡ 0 → c' i ≡ record { finished = suc (c i).finished; units = 0 } → Kept ts first c' (set js i j) (set rows i v)
   kept_end z told =
       let old = live in
-      kept_set ts first c c' js rows i j v others refl
-      (subst (λ (y : Tally). Fits (get_or first i 0) y j v) (sym told)
-      (record { waits = λ _. (omega arith, refl); lives = λ some. absurd (omega arith) }))
-      kept
+      kept_set ts first c c' js rows i j v others refl (subst (λ (y : Tally). Fits (get_or first i 0) y j v) (sym told) (grind arith)) kept

@@ -1,5 +1,5 @@
 -- The releases of a settling: the queues, the records and the theory's invariant hold through them.
-use Rattle.std.proofs.Common.{◌≡◌, ℕ, ◌<◌, ◌≤◌, true, false, leb, List, [], ◌∷◌, set, Option, sym, ◌∙◌, subst, arith}
+use Rattle.std.proofs.Common.{◌≡◌, ℕ, ◌<◌, ◌≤◌, true, false, List, [], ◌∷◌, set, Option, sym, ◌∙◌, arith, nat_le}
 use Rattle.std.proofs.lemmas.Bool.{cond_both, leb-true, leb-false}
 use Rattle.queue.specs.declared.Entry.{Entry}
 use Rattle.queue.specs.Entries.{sooner}
@@ -7,13 +7,12 @@ use Rattle.queue.specs.Order.{ordered}
 use Rattle.theory.specs.Lists.{All}
 use Rattle.theory.specs.Tasks.{Task}
 use Rattle.theory.specs.Ticks.{Row, fresh}
+use Rattle.theory.proofs.Lists.{all_imp}
 use Rattle.machine.specs.declared.job.Job.{Job}
 use Rattle.machine.specs.History.{Tally}
 use Rattle.machine.specs.Inner.{Inner, in_line, new_job, released}
 use Rattle.machine.specs.Plans.{task_at}
-use Rattle.machine.proofs.Lists.{all_imp}
 use Rattle.machine.proofs.Load.{Sound, Passing, sound_fresh}
-use Rattle.machine.proofs.Orders.{Apart}
 use Rattle.machine.proofs.Records.{Kept, kept_pop}
 use Rattle.machine.proofs.Rows.{row_at}
 use Rattle.machine.proofs.Shape.{Delayed, Shape, shape_pop}
@@ -33,7 +32,7 @@ pub loosed : (f n a : ℕ) (ts : List Task) (first : List ℕ) (c : ℕ → Tall
     Stage f n a ts first c (record { delay = d; queue = q; active = act; jobs = js }) rows → Loosed f n a ts first c (released ts n d q act js)
 loosed f n a ts first c pass [] q act js rows g = (rows, g, tt)
 loosed f n a ts first c pass (e ∷ es) q act js rows g =
-    cond_both (leb e.key n)
+    cond_both (nat_le e.key n)
     (released ts n es (ordered sooner (in_line i) q) act (set js i (new_job (task_at ts i) e.key)))
     (record { delay = e ∷ es; queue = q; active = act; jobs = js }) (Loosed f n a ts first c)
     (λ t.
@@ -47,7 +46,7 @@ loosed f n a ts first c pass (e ∷ es) q act js rows g =
     entry : Delayed rows e
     entry = g.shape.delayed.0
 
-    popped : leb e.key n ≡ true →
+    popped : nat_le e.key n ≡ true →
         Stage f n a ts first c (record { delay = es; queue = ordered sooner (in_line i) q; active = act; jobs = set js i (new_job (task_at ts i) e.key) })
         (set rows i (fresh n (row_at rows i)))
     popped t =
@@ -58,10 +57,8 @@ loosed f n a ts first c pass (e ∷ es) q act js rows g =
         record {
           shape = shape_pop n rows e es q act valid g.shape;
           kept = kept_pop n e.key ts first c js rows i valid entry.0 (entry.1.0, is) (sym entry.1.1 ∙ is) g.kept;
-          sound = sound_fresh f n a rows i (subst (Passing f) (sym g.kept.table) pass) entry.0 due g.sound;
+          sound = grind (arith, sound_fresh);
         }
 
-    done : leb e.key n ≡ false → Loosed f n a ts first c (record { delay = e ∷ es; queue = q; active = act; jobs = js })
-    done t =
-        let lt = leb-false e.key n t in
-        (rows, g, (lt, all_imp (Apart e) (λ x. n < x.key) (λ x p. omega (arith, p.0)) es g.shape.sorted.0))
+    done : nat_le e.key n ≡ false → Loosed f n a ts first c (record { delay = e ∷ es; queue = q; active = act; jobs = js })
+    done t = grind (arith, leb-false, all_imp)

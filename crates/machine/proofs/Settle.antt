@@ -1,28 +1,27 @@
 -- Settling: what holds after it, at the admitted level or slowed.
-use Rattle.std.proofs.Common.{◌≡◌, ℕ, ◌+◌, ◌-◌, ◌*◌, ◌<◌, ◌≤◌, min, true, ◌&&◌, eqb, ltb, leb, ◌≢◌, ◌⊎◌, List, [], ◌∷◌, length, get_or, Some, None, Option, sym, refl, ap, ◌∙◌, subst, inl, inr, ⊎_elim, arith}
-use Rattle.std.proofs.lemmas.Bool.{cases_lt, cond_both, cond-false, leb-true, ltb-true, le-ltb, ne_eqb, and_parts}
+use Rattle.std.proofs.Common.{◌≡◌, ℕ, ◌+◌, ◌-◌, ◌*◌, ◌<◌, ◌≤◌, true, ◌&&◌, ◌≢◌, ◌⊎◌, List, [], ◌∷◌, length, get_or, Some, None, Option, refl, ap, subst, inl, inr, ⊎_elim, arith, nat_le, nat_lt}
+use Rattle.std.proofs.lemmas.Bool.{cases_lt, cond_both}
 use Rattle.queue.specs.declared.Entry.{Entry}
-use Rattle.queue.specs.Entries.{sooner}
-use Rattle.queue.specs.Order.{ordered}
 use Rattle.theory.specs.Lists.{All}
 use Rattle.theory.specs.Tasks.{Task}
 use Rattle.theory.specs.Ticks.{Row}
+use Rattle.theory.proofs.Lists.{all_imp}
 use Rattle.units.specs.Calls.{ask_with, rest_for}
 use Rattle.units.specs.Meaning.{Meaning, Nature, ready, works}
 use Rattle.machine.specs.declared.job.Job.{Job}
 use Rattle.machine.specs.declared.job.Pace.TheVariants.{Full, Slowed}
 use Rattle.machine.specs.History.{Tally}
-use Rattle.machine.specs.Inner.{Inner, in_line, job_at, released, release_due, elected, elect}
+use Rattle.machine.specs.Inner.{Inner, job_at, released, release_due, elect}
 use Rattle.machine.specs.Plans.{Plan, task_at}
 use Rattle.machine.specs.Speed.{Speed, may_ask, may_rest, rest_until, window_end, window, enough_in, slow_to, slow_for, rest_or_slow, spared}
-use Rattle.machine.proofs.Lists.{Pairs, all_imp}
+use Rattle.machine.proofs.Lists.{Pairs}
 use Rattle.machine.proofs.Load.{Sound, Passing, sound_due}
 use Rattle.machine.proofs.Orders.{Apart}
 use Rattle.machine.proofs.Records.{Lives, Kept}
 use Rattle.machine.proofs.Releases.{Stage, loosed}
 use Rattle.machine.proofs.Rows.{row_at, task_is}
 use Rattle.machine.proofs.Shape.{Shape, Chosen, shape_elect, none_active, one_active, waits_all}
-use Rattle.machine.proofs.Unit.{ahead, ready_is, ahead_ready, works_is}
+use Rattle.machine.proofs.Unit.{ahead, ready_is}
 
 -- The unit is at the admitted level f, or comes to it while no row has an unfinished job.
 pub record AtFull (f k n : ℕ) (rows : List Row) (v : Speed) : Type 0 where
@@ -33,10 +32,7 @@ pub record AtFull (f k n : ℕ) (rows : List Row) (v : Speed) : Type 0 where
 -- While a row has an unfinished job, a unit at the admitted level works.
 pub full_works : (f k n : ℕ) (rows : List Row) (v : Speed) → AtFull f k n rows v → (i : ℕ) → i < length rows → 0 < (row_at rows i).rem →
     (ahead k v.unit ≡ 0) × (works v.unit ≡ f)
-full_works f k n rows v a i hi some =
-    let z : ahead k v.unit ≡ 0 = ⊎_elim (λ b. absurd (omega (arith, (a.sound.quiet b i hi).0))) (λ b. omega arith) (cases_lt 0 (ahead k v.unit)) in
-    let w = ahead_ready k v.unit z in
-    (z, works_is v.unit w.0 w.1 ∙ a.asked)
+full_works f k n rows v a i hi some = grind arith
 
 -- The unit is slowed for a row whose job is alone: within the window its work is done, and the window ends early enough to raise the level again.
 pub record AtSlow (f r n : ℕ) (rows : List Row) (q : List Entry) (a : Option ℕ) (row : ℕ) (v : Speed) : Type 0 where
@@ -66,18 +62,13 @@ pub record Held (x : Nature) (p : Plan) (first : List ℕ) (c : ℕ → Tally) (
 
 -- Sound rows are sound for any other number of ticks without work, where they are quiet for so long.
 sound_quiet : (f n a b : ℕ) (rows : List Row) → (0 < b → (k : ℕ) → k < length rows → ((row_at rows k).rem ≡ 0) × (n + b ≤ (row_at rows k).next)) → Sound f n a rows → Sound f n b rows
-sound_quiet f n a b rows q s = record { valid = s.valid; coming = s.coming; inv = s.inv; quiet = q }
-
--- Sound rows are sound for fewer ticks without work.
-sound_less : (f n a b : ℕ) (rows : List Row) → b ≤ a → Sound f n a rows → Sound f n b rows
-sound_less f n a b rows le s =
-    sound_quiet f n a b rows (λ pos k h. let w = s.quiet (omega arith) k h in (w.0, omega (arith, w.1))) s
+sound_quiet f n a b rows q s = grind arith
 
 -- What holds where no level is enough, and of every level that is, holds of the lowest.
 enough_is : (w need : ℕ) (gs : List ℕ) (P : Option ℕ → Type 0) → P None → ((g : ℕ) → need ≤ g * w → P (Some g)) → P (enough_in w need gs)
 enough_is w need [] P none some = none
 enough_is w need (g ∷ gs) P none some =
-    cond_both (leb need (g * w)) (Some g) (enough_in w need gs) P (λ e. some g (leb-true need (g * w) e)) (λ e. enough_is w need gs P none some)
+    cond_both (nat_le need (g * w)) (Some g) (enough_in w need gs) P (λ e. grind arith) (λ e. enough_is w need gs P none some)
 
 -- The window ends by the deadline.
 end_due : (due : ℕ) (d : List Entry) → window_end due d ≤ due
@@ -87,7 +78,7 @@ end_due due (e ∷ es) = omega arith
 -- The window ends by every release.
 end_all : (due : ℕ) (d : List Entry) → Pairs Apart d → All (λ e. window_end due d ≤ e.key) d
 end_all due [] s = tt
-end_all due (e ∷ es) s = (omega arith, all_imp (Apart e) (λ x. min due e.key ≤ x.key) (λ x h. omega (arith, h.0)) es s.0)
+end_all due (e ∷ es) s = grind (arith, all_imp)
 
 module _ (x : Nature) (p : Plan) (l n a : ℕ) (first : List ℕ) (c : ℕ → Tally) (rows : List Row) where
   -- The admitted level, what holds after a settling, and the speed of a unit that is not slowed.
@@ -102,32 +93,25 @@ module _ (x : Nature) (p : Plan) (l n a : ℕ) (first : List ℕ) (c : ℕ → T
 
   -- Where nothing is asked, the unit stays at the admitted level.
   stay : (s : Inner) (u : Meaning) → u.asked ≡ f → ahead x.wake u ≤ a → Stage f n a p.tasks first c s rows → After s (full u)
-  stay s u asked le g = inl (record { pace = refl; asked = asked; sound = sound_less f n a (ahead x.wake u) rows le g.sound })
+  stay s u asked le g = grind arith
 
   -- A rest ends before the first release, with the wake allowance.
   resting : (d q : List Entry) (js : List Job) (u : Meaning) → u.asked ≡ f → ahead x.wake u ≤ a → Chosen q None →
       Stage f n a p.tasks first c (record { delay = d; queue = q; active = None; jobs = js }) rows →
       After (record { delay = d; queue = q; active = None; jobs = js }) (full (rest_until n x.wake d u))
-  resting [] q js u asked le ch g = stay (record { delay = []; queue = q; active = None; jobs = js }) u asked le g
+  resting [] q js u asked le ch g = grind arith
   resting (e ∷ es) q js u asked le ch g =
       cond_both (may_rest t u) (rest_for t u) u (λ y. After s (full y))
       (λ b.
-      let b' = (and_parts (ready u) _ b).1 in
-      let pos = ltb-true 0 t (and_parts (ltb 0 t) _ b').0 in
-      let is : ahead x.wake (rest_for t u) ≡ t + x.wake = cond-false (eqb t 0) u.lag (t + x.wake) (ne_eqb t 0 (λ z. omega arith)) in
+      let pos : 0 < t = grind arith in
+      let is : ahead x.wake (rest_for t u) ≡ t + x.wake = grind arith in
       inl (record {
         pace = refl;
         asked = asked;
         sound = sound_quiet f n a (ahead x.wake (rest_for t u)) rows
             (λ _ k h.
-            let z = none_active rows (e ∷ es) q g.shape ch k h in (
-              z,
-              omega (
-                arith,
-                waits_all rows (e ∷ es) q None (λ m. e.key ≤ m) g.shape
-                    (omega arith, all_imp (Apart e) (λ y. e.key ≤ y.key) (λ y w. w.0) es g.shape.sorted.0) k h z,
-              ),
-            ))
+            let z = none_active rows (e ∷ es) q g.shape ch k h in
+            (z, omega (arith, waits_all rows (e ∷ es) q None (λ m. e.key ≤ m) g.shape (grind (arith, all_imp)) k h z)))
             g.sound;
       }))
       (λ _. stay s u asked le g)
@@ -144,12 +128,12 @@ module _ (x : Nature) (p : Plan) (l n a : ℕ) (first : List ℕ) (c : ℕ → T
       After (record { delay = d; queue = []; active = Some i; jobs = js })
       (slow_for x p l n x.raise i (record { delay = d; queue = []; active = Some i; jobs = js }) u)
   slowing d js i u asked rd le g =
-      cond_both (ltb 0 w) (slow_to x f l i (enough_in w need p.levels) u) (full u) (After s)
+      cond_both (nat_lt 0 w) (slow_to x f l i (enough_in w need p.levels) u) (full u) (After s)
       (λ e.
       enough_is w need p.levels (λ o. After s (slow_to x f l i o u)) (stay s u asked le g)
       (λ lv le'.
-      cond_both (ltb lv f && may_ask x lv u) (record { pace = Slowed i; unit = ask_with l lv u }) (full u) (After s)
-      (λ b. inr (i, made (ltb-true 0 w e) lv le' (ltb-true lv f (and_parts (ltb lv f) (may_ask x lv u) b).0)))
+      cond_both (nat_lt lv f && may_ask x lv u) (record { pace = Slowed i; unit = ask_with l lv u }) (full u) (After s)
+      (λ b. inr (i, made (grind arith) lv le' (grind arith)))
       (λ _. stay s u asked le g)))
       (λ _. stay s u asked le g)
     where
@@ -187,7 +171,7 @@ module _ (x : Nature) (p : Plan) (l n a : ℕ) (first : List ℕ) (c : ℕ → T
             active = refl;
             alone = refl;
             rest = z.0;
-            lag = cond-false (ltb u.asked lv) l u.lag (le-ltb u.asked lv (omega arith)) ∙ z.1;
+            lag = grind arith;
             below = below;
             enough = omega (arith, live.left, ap (λ (y : Task). y.work) is);
             due = omega (arith, live.due, end_due j.due d);
@@ -203,7 +187,7 @@ module _ (x : Nature) (p : Plan) (l n a : ℕ) (first : List ℕ) (c : ℕ → T
       (rest_or_slow x p l n x.raise x.wake o q (record { delay = d; queue = q; active = o; jobs = js }) u)
   chosen_speed d q None js u asked rd le ch g = resting d q js u asked le ch g
   chosen_speed d [] (Some i) js u asked rd le ch g = slowing d js i u asked rd le g
-  chosen_speed d (h ∷ q) (Some i) js u asked rd le ch g = stay (record { delay = d; queue = h ∷ q; active = Some i; jobs = js }) u asked le g
+  chosen_speed d (h ∷ q) (Some i) js u asked rd le ch g = grind arith
 
   -- A unit at the admitted level that may still lag is spared where it does not.
   spared_full : (s : Inner) (u : Meaning) → u.asked ≡ f → ahead x.wake u ≤ a → Chosen s.queue s.active → Stage f n a p.tasks first c s rows →
@@ -212,23 +196,11 @@ module _ (x : Nature) (p : Plan) (l n a : ℕ) (first : List ℕ) (c : ℕ → T
       cond_both (ready u) (rest_or_slow x p l n x.raise x.wake s.active s.queue s u) (full u) (After s)
       (λ e. chosen_speed s.delay s.queue s.active s.jobs u asked e le ch g) (λ _. stay s u asked le g)
 
--- The choice leaves the records.
-elect_jobs : (s : Inner) (q : List Entry) (o : Option ℕ) → (elected q o s).jobs ≡ s.jobs
-elect_jobs s [] o = refl
-elect_jobs s (h ∷ q) None = refl
-elect_jobs s (h ∷ q) (Some i) =
-    cond_both (sooner (in_line i) h) s (record { delay = s.delay; queue = ordered sooner (in_line i) q; active = Some h.row; jobs = s.jobs })
-    (λ y. y.jobs ≡ s.jobs) (λ _. refl) (λ _. refl)
-
 -- After the releases, every next release is to come.
 all_later : (f n a : ℕ) (ts : List Task) (first : List ℕ) (c : ℕ → Tally) (s : Inner) (rows : List Row) → Stage f n a ts first c s rows → All (λ e. n < e.key) s.delay →
     (k : ℕ) → k < length rows → n < (row_at rows k).next
 all_later f n a ts first c s rows g after k h =
-    ⊎_elim
-    (λ some.
-    let live = (g.kept.fits k h).lives some in
-    let v = g.sound.valid k h in
-    omega (arith, sound_due f n a rows g.sound k h some))
+    ⊎_elim (grind (arith, sound_due))
     (λ none. waits_all rows s.delay s.queue s.active (λ m. n < m) g.shape after k h (omega arith)) (cases_lt 0 (row_at rows k).rem)
 
 -- Settling at the admitted level, from a state where the theory's invariant holds.
@@ -243,12 +215,12 @@ settle_full x p l n a first c pass s rows g u asked le =
         Held x p first c n (elect s₁) (spared x p l n x.raise x.wake (elect s₁) Full u)
     finished rows' s₁ g₁ after =
         let (shape, chosen) = shape_elect rows' s₁.delay s₁.queue s₁.active s₁.jobs g₁.shape in
-        let kept = subst (λ (js : List Job). Kept p.tasks first c js rows') (sym (elect_jobs s₁ s₁.queue s₁.active)) g₁.kept in
+        let kept = subst (λ (js : List Job). Kept p.tasks first c js rows') (grind arith) g₁.kept in
         record {
           rows = rows';
           shape = shape;
           chosen = chosen;
           kept = kept;
           later = all_later p.admitted n a p.tasks first c s₁ rows' g₁ after;
-          mode = spared_full x p l n a first c rows' (elect s₁) u asked le chosen (record { shape = shape; kept = kept; sound = g₁.sound });
+          mode = spared_full x p l n a first c rows' (elect s₁) u asked le chosen (grind arith);
         }

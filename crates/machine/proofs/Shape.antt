@@ -1,5 +1,5 @@
 -- The queues hold just the rows that they should: through the releases and the choice of the active row.
-use Rattle.std.proofs.Common.{◌≡◌, ℕ, ◌<◌, true, false, ◌≢◌, ◌⊎◌, List, [], ◌∷◌, length, set, Some, None, Option, sym, refl, ap, ◌∙◌, subst, inl, inr, ⊎_elim, arith, length-set}
+use Rattle.std.proofs.Common.{◌≡◌, ℕ, ◌<◌, true, false, ◌≢◌, ◌⊎◌, List, [], ◌∷◌, length, set, Some, None, Option, sym, refl, inl, inr, arith, length-set}
 use Rattle.std.proofs.lemmas.List.{get_or-set_same, get_or-set_other}
 use Rattle.std.proofs.lemmas.Bool.{cases_lt, cond_both}
 use Rattle.queue.specs.declared.Entry.{Entry}
@@ -8,19 +8,12 @@ use Rattle.queue.specs.Order.{ordered}
 use Rattle.theory.specs.Lists.{All, Any}
 use Rattle.theory.specs.Tasks.{Valid}
 use Rattle.theory.specs.Ticks.{Row, fresh}
+use Rattle.theory.proofs.Lists.{all_imp, all_two}
 use Rattle.machine.specs.declared.job.Job.{Job}
 use Rattle.machine.specs.Inner.{Inner, in_line, elected}
-use Rattle.machine.proofs.Lists.{Pairs, all_imp, all_two, any_all, all_ordered, any_here, any_there}
+use Rattle.machine.proofs.Lists.{Pairs, any_all, all_ordered, any_here, any_there}
 use Rattle.machine.proofs.Orders.{Apart, Rising, rows_true, rows_false, rising_with}
 use Rattle.machine.proofs.Rows.{no_row, row_at, each_set}
-
--- The same row is active.
-pub some_same : (i j : ℕ) → Some i ≡ Some j → i ≡ j
-some_same i j e = cc
-
--- No row is active, so this one is not.
-pub none_some : (i : ℕ) → ◌≡◌ {A = Option ℕ} None (Some i) → ⊥
-none_some i e = let z : ◌≡◌ {A = ℕ} 0 1 = cc in omega arith
 
 -- The row has no unfinished job, and its next release is at tick t.
 abbrev pub Waits : ℕ → Row → Type 0
@@ -57,16 +50,10 @@ pub shape_pop : (n : ℕ) (rows : List Row) (e : Entry) (es q : List Entry) (a :
     Shape (set rows e.row (fresh n (row_at rows e.row))) es (ordered sooner (in_line e.row) q) a
 shape_pop n rows e es q a valid s = record {
   sorted = s.sorted.1;
-  delayed = all_two (Delayed rows) (Apart e) (Delayed rows')
-      (λ x h p. (omega (arith, h.0, same_length), subst (Waits x.key) (sym (other x.row p.1)) h.1)) es s.delayed.1 s.sorted.0;
-  rising = rising_with i q (all_imp (Queued rows a) (λ y. (y.key ≡ 0) × (y.row ≢ i)) (λ y h. (h.3, not_i y.row h.1)) q s.queued) s.rising;
-  queued = all_ordered sooner (in_line i) (Queued rows' a) q
-      (omega (arith, in_rows, same_length), subst (λ (r : Row). 0 < r.rem) (sym here) (omega arith), λ eq. omega (arith, (s.acting i eq).1, nothing), refl)
-      (all_imp (Queued rows a) (Queued rows' a)
-      (λ y h. (omega (arith, h.0, same_length), subst (λ (r : Row). 0 < r.rem) (sym (other y.row (not_i y.row h.1))) h.1, h.2, h.3)) q s.queued);
-  acting = λ j eq.
-      let h = s.acting j eq in
-      (omega (arith, h.0, same_length), subst (λ (r : Row). 0 < r.rem) (sym (other j (not_i j h.1))) h.1);
+  delayed = grind (arith, all_two, same_length, other);
+  rising = grind (arith, rising_with, all_imp);
+  queued = all_ordered sooner (in_line i) (Queued rows' a) q (grind (arith, here, same_length)) (grind (arith, all_imp, other, not_i, same_length));
+  acting = λ j eq. let h = s.acting j eq in grind (arith, other j, not_i j, same_length);
   placed = each_set (Placed es (ordered sooner (in_line i) q) a) rows i v (inr (omega arith, inr (any_here sooner (in_line i) (λ y. y.row ≡ i) q refl)))
       (λ k h ne. moved k ne (s.placed k h));
 }
@@ -96,13 +83,13 @@ shape_pop n rows e es q a valid s = record {
     other k ne = get_or-set_other rows i k v no_row ne
 
     not_i : (k : ℕ) → 0 < (row_at rows k).rem → k ≢ i
-    not_i k h eq = omega (arith, nothing, ap (λ (m : ℕ). (row_at rows m).rem) eq)
+    not_i k h eq = grind arith
 
     moved : (k : ℕ) → k ≢ i → Placed (e ∷ es) q a k (row_at rows k) → Placed es (ordered sooner (in_line i) q) a k (row_at rows k)
     moved k ne (inl (z, inl eq)) = absurd (ne (sym eq))
     moved k ne (inl (z, inr m)) = inl (z, m)
     moved k ne (inr (p, inl eq)) = inr (p, inl eq)
-    moved k ne (inr (p, inr m)) = inr (p, inr (any_there sooner (in_line i) (λ y. y.row ≡ k) q m))
+    moved k ne (inr (p, inr m)) = grind (arith, any_there)
 
 -- The queues are as they should be, and the active row is chosen.
 abbrev pub Elected : List Row → Inner → Type 0
@@ -113,36 +100,15 @@ pub shape_elect : (rows : List Row) (d q : List Entry) (a : Option ℕ) (js : Li
     Elected rows (elected q a (record { delay = d; queue = q; active = a; jobs = js }))
 shape_elect rows d [] None js s = (s, refl)
 shape_elect rows d [] (Some i) js s = (s, tt)
-shape_elect rows d (h ∷ q) None js s = (
-  record {
-    sorted = s.sorted;
-    delayed = s.delayed;
-    rising = s.rising.1;
-    queued = all_two (Queued rows None) (Rising h) (Queued rows (Some h.row))
-        (λ y a lt. (a.0, a.1, λ eq. omega (arith, some_same h.row y.row eq), a.3)) q s.queued.1 s.rising.0;
-    acting = λ i eq.
-        subst (λ (m : ℕ). (m < length rows) × (0 < (row_at rows m).rem)) (some_same h.row i eq) (s.queued.0.0, s.queued.0.1);
-    placed = λ k b. moved k (s.placed k b);
-  },
-  s.rising.0,
-)
-  where
-    moved : (k : ℕ) → Placed d (h ∷ q) None k (row_at rows k) → Placed d q (Some h.row) k (row_at rows k)
-    moved k (inl z) = inl z
-    moved k (inr (p, inl eq)) = absurd (none_some k eq)
-    moved k (inr (p, inr (inl eq))) = inr (p, inl (ap (λ (m : ℕ). Some m) eq))
-    moved k (inr (p, inr (inr m))) = inr (p, inr m)
+shape_elect rows d (h ∷ q) None js s = grind (arith, all_two)
 shape_elect rows d (h ∷ q) (Some i) js s =
     cond_both (sooner (in_line i) h) (record { delay = d; queue = h ∷ q; active = Some i; jobs = js })
     (record { delay = d; queue = ordered sooner (in_line i) q; active = Some h.row; jobs = js }) (Elected rows) stays goes
   where
-    not_i : (y : Entry) → Queued rows (Some i) y → y.row ≢ i
-    not_i y a eq = a.2 (ap (λ (m : ℕ). Some m) (sym eq))
-
     moved : (k : ℕ) → Placed d (h ∷ q) (Some i) k (row_at rows k) → Placed d (ordered sooner (in_line i) q) (Some h.row) k (row_at rows k)
     moved k (inl z) = inl z
-    moved k (inr (p, inl eq)) = inr (p, inr (any_here sooner (in_line i) (λ y. y.row ≡ k) q (some_same i k eq)))
-    moved k (inr (p, inr (inl eq))) = inr (p, inl (ap (λ (m : ℕ). Some m) eq))
+    moved k (inr (p, inl eq)) = inr (p, inr (any_here sooner (in_line i) (λ y. y.row ≡ k) q (grind arith)))
+    moved k (inr (p, inr (inl eq))) = grind arith
     moved k (inr (p, inr (inr m))) = inr (p, inr (any_there sooner (in_line i) (λ y. y.row ≡ k) q m))
 
     goes : sooner (in_line i) h ≡ false → Elected rows (record { delay = d; queue = ordered sooner (in_line i) q; active = Some h.row; jobs = js })
@@ -152,49 +118,33 @@ shape_elect rows d (h ∷ q) (Some i) js s =
           record {
             sorted = s.sorted;
             delayed = s.delayed;
-            rising = rising_with i q (all_imp (Queued rows (Some i)) (λ y. (y.key ≡ 0) × (y.row ≢ i)) (λ y a. (a.3, not_i y a)) q s.queued.1) s.rising.1;
-            queued = all_ordered sooner (in_line i) (Queued rows (Some h.row)) q (act.0, act.1, λ eq. omega (arith, some_same h.row i eq), refl)
-                (all_two (Queued rows (Some i)) (Rising h) (Queued rows (Some h.row))
-                (λ y a b. (a.0, a.1, λ eq. omega (arith, some_same h.row y.row eq), a.3)) q s.queued.1 s.rising.0);
-            acting = λ j eq.
-                subst (λ (m : ℕ). (m < length rows) × (0 < (row_at rows m).rem)) (some_same h.row j eq) (s.queued.0.0, s.queued.0.1);
+            rising = grind (arith, rising_with, all_imp);
+            queued = grind (arith, all_ordered, all_two);
+            acting = grind arith;
             placed = λ k b. moved k (s.placed k b);
           },
-          all_ordered sooner (in_line i) (Rising h) q lt s.rising.0,
+          grind (arith, all_ordered),
         )
 
     stays : sooner (in_line i) h ≡ true → Elected rows (record { delay = d; queue = h ∷ q; active = Some i; jobs = js })
-    stays e =
-        let le = rows_true (in_line i) h (sym s.queued.0.3) e in
-        let lt : i < h.row = ⊎_elim (λ x. x) (λ x. absurd (not_i h s.queued.0 (omega arith))) (cases_lt i h.row) in
-        (s, (lt, all_imp (Rising h) (λ y. i < y.row) (λ y b. omega arith) q s.rising.0))
+    stays e = grind (arith, rows_true, cases_lt, all_imp)
 
 -- Where none is active, no row has an unfinished job.
 pub none_active : (rows : List Row) (d q : List Entry) → Shape rows d q None → Chosen q None → (k : ℕ) → k < length rows → (row_at rows k).rem ≡ 0
-none_active rows d q s c k h = from (s.placed k h)
-  where
-    from : Placed d q None k (row_at rows k) → (row_at rows k).rem ≡ 0
-    from (inl (z, m)) = z
-    from (inr (p, inl eq)) = absurd (none_some k eq)
-    from (inr (p, inr m)) = absurd (subst (λ (l : List Entry). Any (λ e. e.row ≡ k) l) c m)
+none_active rows d q s c k h = grind arith
 
 -- No row before the active one has an unfinished job.
 pub before_active : (rows : List Row) (d q : List Entry) (i : ℕ) → Shape rows d q (Some i) → Chosen q (Some i) → (k : ℕ) → k < i → (row_at rows k).rem ≡ 0
 before_active rows d q i s c k lt = from (s.placed k (omega (arith, (s.acting i refl).0)))
   where
     from : Placed d q (Some i) k (row_at rows k) → (row_at rows k).rem ≡ 0
-    from (inl (z, m)) = z
-    from (inr (p, inl eq)) = absurd (omega (arith, some_same i k eq))
+    from (inl h) = grind arith
+    from (inr (p, inl eq)) = grind arith
     from (inr (p, inr m)) = absurd (any_all (λ e. e.row ≡ k) (λ e. i < e.row) ⊥ (λ e eq b. omega arith) q m c)
 
 -- With an empty run queue, no row but the active one has an unfinished job.
 pub one_active : (rows : List Row) (d : List Entry) (i : ℕ) → Shape rows d [] (Some i) → (k : ℕ) → k < length rows → k ≢ i → (row_at rows k).rem ≡ 0
-one_active rows d i s k h ne = from (s.placed k h)
-  where
-    from : Placed d [] (Some i) k (row_at rows k) → (row_at rows k).rem ≡ 0
-    from (inl (z, m)) = z
-    from (inr (p, inl eq)) = absurd (ne (sym (some_same i k eq)))
-    from (inr (p, inr m)) = absurd m
+one_active rows d i s k h ne = grind arith
 
 -- What holds of every key of the delay queue holds of the next release of each row that waits.
 pub waits_all : (rows : List Row) (d q : List Entry) (a : Option ℕ) (P : ℕ → Type 0) → Shape rows d q a → All (λ e. P e.key) d →
@@ -204,6 +154,6 @@ waits_all rows d q a P s all k h z = from (s.placed k h)
     from : Placed d q a k (row_at rows k) → P (row_at rows k).next
     from (inl (z', m)) =
         any_all (λ e. e.row ≡ k) (λ e. Delayed rows e × P e.key) (P (row_at rows k).next)
-        (λ e eq b. subst P (sym b.0.1.1 ∙ ap (λ (j : ℕ). (row_at rows j).next) eq) b.1) d m
-        (all_two (Delayed rows) (λ e. P e.key) (λ e. Delayed rows e × P e.key) (λ e x y. (x, y)) d s.delayed all)
+        (λ e eq b. grind arith) d m
+        (grind (arith, all_two))
     from (inr (p, m)) = absurd (omega arith)

@@ -1,13 +1,12 @@
 -- A tick in which the active row runs: what holds goes on holding.
-use Rattle.std.proofs.Common.{◌≡◌, ℕ, suc, ◌+◌, ◌-◌, ◌*◌, ◌<◌, ◌≤◌, min, Bool, true, false, cond, ◌||◌, eqb, leb, ◌≢◌, List, [], ◌∷◌, length, get_or, set, Some, None, Option, sym, refl, ap, ◌∙◌, subst, inr, ⊎_elim, arith}
+use Rattle.std.proofs.Common.{◌≡◌, ℕ, suc, ◌+◌, ◌-◌, ◌*◌, ◌<◌, ◌≤◌, min, Bool, true, false, ◌||◌, ◌≢◌, List, [], ◌∷◌, length, get_or, set, Some, None, Option, sym, refl, ap, ◌∙◌, subst, inr, arith, ◌==◌, rules}
 use Rattle.std.proofs.lemmas.List.{get_or-set_same}
-use Rattle.std.proofs.lemmas.Bool.{cases_lt, cond_both, cond-true, cond-false, lt-leb, eqb-true, eqb-false, eq-eqb, ne_eqb, or_parts}
+use Rattle.std.proofs.lemmas.Bool.{cases_lt, cond_both, cond-true, eq-eqb}
 use Rattle.queue.specs.declared.Entry.{Entry}
-use Rattle.queue.specs.Entries.{sooner}
-use Rattle.queue.specs.Order.{ordered}
 use Rattle.theory.specs.Lists.{All}
 use Rattle.theory.specs.Tasks.{Task, Valid}
 use Rattle.theory.specs.Ticks.{Row, given}
+use Rattle.theory.proofs.Lists.{all_imp}
 use Rattle.units.specs.Calls.{tick_with}
 use Rattle.units.specs.Meaning.{Meaning, Nature, works}
 use Rattle.machine.specs.declared.job.Job.{Job}
@@ -15,59 +14,32 @@ use Rattle.machine.specs.declared.job.Pace.{Pace}
 use Rattle.machine.specs.declared.job.Pace.TheVariants.{Full, Slowed, Over}
 use Rattle.machine.specs.declared.word.Reply.TheVariants.{Ran}
 use Rattle.machine.specs.declared.word.Word.{Word}
-use Rattle.machine.specs.History.{Tally, History, gets, count, says_ended}
-use Rattle.machine.specs.Inner.{given_more, Inner, in_line, no_job, job_at, new_job, give, finish, released, release_due, elected, elect}
+use Rattle.machine.specs.History.{History, count, says_ended}
+use Rattle.machine.specs.Inner.{Inner, job_at, give, finish, released, release_due, elect}
 use Rattle.machine.specs.Machine.{Now, Lags, Within, pass, outcome_of, pace_after, run_row}
 use Rattle.machine.specs.Plans.{Plan, Planned, task_at}
 use Rattle.machine.proofs.Give.{shape_on, shape_end}
 use Rattle.machine.proofs.Holds.{tallies, state_of, Holds, passing, settle_holds, settle_over}
-use Rattle.machine.proofs.Lists.{all_imp}
-use Rattle.machine.proofs.Load.{Sound, Passing, sound_anew, sound_serve}
+use Rattle.machine.proofs.Load.{Sound, sound_anew, sound_serve}
 use Rattle.machine.proofs.Records.{Lives, Kept, kept_on, kept_end}
 use Rattle.machine.proofs.Rows.{no_row, row_at, each_set, task_is, valid_at}
 use Rattle.machine.proofs.Settle.{AtFull, AtSlow, Held, full_works}
 use Rattle.machine.proofs.Shape.{Delayed, Shape, Chosen, before_active}
-use Rattle.machine.proofs.Unit.{ahead, works_is, tick_ahead, tick_still}
+use Rattle.machine.proofs.Unit.{ahead, works_is, tick_ahead}
 
 -- Where every release is to come, there is nothing to release.
 released_none : (ts : List Task) (n : ℕ) (d q : List Entry) (a : Option ℕ) (js : List Job) → All (λ e. n < e.key) d →
     released ts n d q a js ≡ record { delay = d; queue = q; active = a; jobs = js }
 released_none ts n [] q a js h = refl
-released_none ts n (e ∷ es) q a js h =
-    cond-false (leb e.key n)
-    (released ts n es (ordered sooner (in_line e.row) q) a (set js e.row (new_job (task_at ts e.row) e.key)))
-    (record { delay = e ∷ es; queue = q; active = a; jobs = js }) (lt-leb e.key n h.0)
+released_none ts n (e ∷ es) q a js h = grind arith
 
 -- Where the run queue is empty, there is nothing to choose.
 elect_none : (s : Inner) → s.queue ≡ [] → elect s ≡ s
-elect_none s e = subst (λ (y : List Entry). elected y s.active s ≡ s) (sym e) refl
-
--- What the history tells of a row whose job is finished.
-told_end : (t : Task) (said : Bool) (m g : ℕ) (c : Tally) → c.units ≡ g → (said || eqb (g + m) t.work) ≡ true →
-    gets t said m c ≡ record { finished = suc c.finished; units = 0 }
-told_end t said m g c e h =
-    cond-true (said || eqb (c.units + m) t.work) (record { finished = suc c.finished; units = 0 }) (record { finished = c.finished; units = c.units + m })
-    (subst (λ (y : ℕ). (said || eqb (y + m) t.work) ≡ true) (sym e) h)
-
--- What the history tells of a row whose job goes on.
-told_on : (t : Task) (said : Bool) (m g : ℕ) (c : Tally) → c.units ≡ g → (said || eqb (g + m) t.work) ≡ false →
-    gets t said m c ≡ record { finished = c.finished; units = c.units + m }
-told_on t said m g c e h =
-    cond-false (said || eqb (c.units + m) t.work) (record { finished = suc c.finished; units = 0 }) (record { finished = c.finished; units = c.units + m })
-    (subst (λ (y : ℕ). (said || eqb (y + m) t.work) ≡ false) (sym e) h)
-
--- A finished job has nothing left.
-nothing_left : (lv : ℕ) (said : Bool) (g w rem : ℕ) → rem + g ≡ w → (said || eqb (g + min lv (w - g)) w) ≡ true → cond said 0 (rem - lv) ≡ 0
-nothing_left lv true g w rem e h = refl
-nothing_left lv false g w rem e h = omega (arith, eqb-true (g + min lv (w - g)) w h)
+elect_none s e = grind arith
 
 -- A job that goes on was given the whole level, and has more left.
-more_left : (lv : ℕ) (said : Bool) (g w rem : ℕ) → rem + g ≡ w → (said || eqb (g + min lv (w - g)) w) ≡ false → (said ≡ false) × (min lv (w - g) ≡ lv) × (lv < rem)
-more_left lv said g w rem e h =
-    let parts = or_parts said (eqb (g + min lv (w - g)) w) h in
-    let ne = eqb-false (g + min lv (w - g)) w parts.1 in
-    let lt : lv < rem = ⊎_elim (λ y. y) (λ y. absurd (ne (omega arith))) (cases_lt lv rem) in
-    (parts.0, omega arith, lt)
+more_left : (lv : ℕ) (said : Bool) (g w rem : ℕ) → rem + g ≡ w → (said || g + min lv (w - g) == w) ≡ false → (said ≡ false) × (min lv (w - g) ≡ lv) × (lv < rem)
+more_left lv said g w rem e h = grind arith
 
 module _ (x : Nature) (p : Plan) (planned : Planned p) (takes : x.takes p.admitted ≡ true) (first : List ℕ) (l : Lags)
     (within : Within x l) (word : Word) (h : History) (n : ℕ) (told : n ≡ count h) (u : Meaning)
@@ -96,7 +68,7 @@ module _ (x : Nature) (p : Plan) (planned : Planned p) (takes : x.takes p.admitt
   s = record { delay = d; queue = q; active = Some i; jobs = js }
 
   abbrev whole : Bool
-  whole = eqb (g + m) t.work
+  whole = g + m == t.work
 
   -- The history after the tick, and the rows.
   abbrev h' : History
@@ -121,19 +93,15 @@ module _ (x : Nature) (p : Plan) (planned : Planned p) (takes : x.takes p.admitt
 
   -- The job of the active row is unfinished.
   live : Lives (get_or first i 0) (tallies p h i) (job_at js i) r
-  live = (kept.fits i hi).lives pos
+  live = grind (arith, pos)
 
   -- What is left and what was given are the work of the task.
   work_is : r.rem + g ≡ t.work
-  work_is = live.left ∙ ap (λ (y : Task). y.work) (task_is ts rows kept.table i hi)
+  work_is = grind (arith, task_is)
 
   -- The history tells the same of the other rows.
   others : (k : ℕ) → k ≢ i → tallies p h' k ≡ tallies p h k
-  others k ne = cond-false (eqb (suc i) (suc k)) (gets (task_at ts k) said m (tallies p h k)) (tallies p h k) (ne_eqb (suc i) (suc k) (λ e. ne (omega arith)))
-
-  -- The history tells of the active row that it got its units.
-  mine : tallies p h' i ≡ gets t said m (tallies p h i)
-  mine = cond-true (eqb (suc i) (suc i)) (gets t said m (tallies p h i)) (tallies p h i) (eq-eqb (suc i) (suc i) refl)
+  others k ne = grind arith
 
   -- Where the job goes on, it was not said to have ended, got the whole level, and has more left.
   on_facts : (said || whole) ≡ false → (said ≡ false) × (m ≡ lv) × (lv < r.rem)
@@ -141,11 +109,11 @@ module _ (x : Nature) (p : Plan) (planned : Planned p) (takes : x.takes p.admitt
 
   -- Where the job goes on, so much is left.
   on_left : (said || whole) ≡ false → v.rem ≡ r.rem - lv
-  on_left e = cond-false said 0 (r.rem - lv) (on_facts e).0
+  on_left e = grind arith
 
   -- Where the job is finished, nothing is left.
   end_left : (said || whole) ≡ true → v.rem ≡ 0
-  end_left e = nothing_left lv said g t.work r.rem work_is e
+  end_left e = grind (arith, work_is)
 
   -- Where the job goes on, the queues hold what they should.
   on_shape : (said || whole) ≡ false → Shape rows' d q (Some i)
@@ -155,21 +123,19 @@ module _ (x : Nature) (p : Plan) (planned : Planned p) (takes : x.takes p.admitt
   on_kept : (said || whole) ≡ false → Kept ts first (tallies p h') (give i m s).jobs rows'
   on_kept e =
       let f = on_facts e in
-      kept_on ts first (tallies p h) (tallies p h') js rows i m lv said kept hi pos others f.1 f.0 f.2 (mine ∙ told_on t said m g (tallies p h i) live.units e)
+      kept_on ts first (tallies p h) (tallies p h') js rows i m lv said kept hi pos others f.1 f.0 f.2 (grind arith)
 
   -- The next release of the row is the one in its record.
   end_next : v.next ≡ (job_at (give i m s).jobs i).next
-  end_next =
-      let same_job = get_or-set_same js i (given_more m (job_at js i)) no_job (omega (arith, kept.size, hi)) in
-      live.next ∙ ap (λ (y : Job). y.next) (sym same_job)
+  end_next = search rules
 
   -- Where the job is finished, the queues hold what they should.
   end_shape : (said || whole) ≡ true → Shape rows' (finish i (give i m s)).delay q None
-  end_shape e = shape_end rows d q i v shape (end_left e) (job_at (give i m s).jobs i).next end_next
+  end_shape e = search (rules, shape_end, end_left, end_next)
 
   -- Where the job is finished, the records fit.
   end_kept : (said || whole) ≡ true → Kept ts first (tallies p h') (finish i (give i m s)).jobs rows'
-  end_kept e = kept_end ts first (tallies p h) (tallies p h') js rows i m lv said kept hi pos others (end_left e) (mine ∙ told_end t said m g (tallies p h i) live.units e)
+  end_kept e = kept_end ts first (tallies p h) (tallies p h') js rows i m lv said kept hi pos others (end_left e) (grind (arith, live))
 
   -- The admitted level, and what holds after the tick.
   abbrev f : ℕ
@@ -190,13 +156,12 @@ module _ (x : Nature) (p : Plan) (planned : Planned p) (takes : x.takes p.admitt
       (record { shape = on_shape e; kept = on_kept e; sound = sound }) a.asked still)
     where
       works_at : (ahead x.wake u ≡ 0) × (lv ≡ f)
-      works_at = full_works f x.wake n rows (record { pace = Full; unit = u }) a i hi pos
+      works_at = grind (arith, full_works, hi, pos)
 
       sound : Sound f (suc n) 0 rows'
       sound =
           subst (λ (y : ℕ). Sound f (suc n) 0 (set rows i (given y said r))) (sym works_at.1)
-          (sound_serve f said n (ahead x.wake u) rows i (subst (Passing f) (sym kept.table) (passing p planned)) hi pos
-          (before_active rows d q i shape chosen) later a.sound)
+          (sound_serve f said n (ahead x.wake u) rows i (grind arith) hi pos (before_active rows d q i shape chosen) later a.sound)
 
       still : ahead x.wake (tick_with l.woken u) ≤ 0
       still = omega (arith, tick_ahead x.wake l.woken u within.woken, works_at.0)
@@ -208,13 +173,13 @@ module _ (x : Nature) (p : Plan) (planned : Planned p) (takes : x.takes p.admitt
       (pass x p l (give i m s) (Slowed i) (state_of x n s (Slowed i)) u) After ends goes
     where
       valid : (k : ℕ) → k < length rows → Valid (row_at rows k).task
-      valid = valid_at rows (subst (All Valid) (sym kept.table) planned.valid)
+      valid = grind (arith, valid_at)
 
       w : ℕ
       w = b.window
 
       some_window : 1 ≤ w
-      some_window = ⊎_elim (λ y. y) (λ y. let z : w ≡ 0 = omega arith in absurd (omega (arith, b.enough, pos, ap (λ (k : ℕ). u.asked * k) z))) (cases_lt 0 w)
+      some_window = grind arith
 
       next_due : n + w + x.raise ≤ r.next
       next_due = let a = valid i hi in let o = live in omega (arith, b.due)
@@ -223,19 +188,19 @@ module _ (x : Nature) (p : Plan) (planned : Planned p) (takes : x.takes p.admitt
       u' = tick_with l.woken u
 
       still : (u'.rest ≡ 0) × (u'.lag ≡ 0)
-      still = tick_still l.woken u b.rest b.lag
+      still = grind arith
 
       ends : (said || whole) ≡ true → After (pass x p l (finish i (give i m s)) (pace_after i (Slowed i)) (state_of x n s (Slowed i)) u)
       ends e =
-          subst (λ (y : Pace). After (pass x p l (finish i (give i m s)) y (state_of x n s (Slowed i)) u)) (sym (cond-true (eqb i i) Over (Slowed i) (eq-eqb i i refl)))
+          subst (λ (y : Pace). After (pass x p l (finish i (give i m s)) y (state_of x n s (Slowed i)) u)) (sym (cond-true (i == i) Over (Slowed i) (eq-eqb i i refl)))
           (settle_over x p first planned takes l (suc n) h' (finish i (give i m s)) rows' u' (ap suc told) within.back still.0 still.1 b.below
           (record {
             shape = end_shape e;
             kept = end_kept e;
-            sound = sound_anew f (suc n) x.raise rows' (subst (Passing f) (sym (end_kept e).table) (passing p planned))
+            sound = sound_anew f (suc n) x.raise rows' (grind (arith, end_kept, passing))
                 (each_set (λ _ y. Valid y.task) rows i v (valid i hi) (λ k hk _. valid k hk))
                 (each_set (λ _ y. (y.rem ≡ 0) × (suc n + x.raise ≤ y.next)) rows i v (end_left e, omega (arith, next_due, some_window))
-                (λ k hk ne. let o = b.others k hk ne in (o.0, omega (arith, o.1, some_window))));
+                (λ k hk ne. grind arith));
           }))
 
       goes : (said || whole) ≡ false → After (pass x p l (give i m s) (Slowed i) (state_of x n s (Slowed i)) u)
@@ -266,7 +231,7 @@ module _ (x : Nature) (p : Plan) (planned : Planned p) (takes : x.takes p.admitt
                   enough = subst (λ (y : Row). y.rem ≤ u.asked * (w - 1)) (sym here) less;
                   due = subst (λ (y : Row). suc n + (w - 1) + x.raise ≤ y.due) (sym here) (omega (arith, b.due, some_window));
                   others = each_set (λ k y. k ≢ i → (y.rem ≡ 0) × (suc n + (w - 1) + x.raise ≤ y.next)) rows i v (λ ne. absurd (ne refl))
-                      (λ k hk ne _. let o = b.others k hk ne in (o.0, omega (arith, o.1, some_window)));
+                      (λ k hk ne _. grind arith);
                 },
               );
             });
@@ -281,16 +246,12 @@ module _ (x : Nature) (p : Plan) (planned : Planned p) (takes : x.takes p.admitt
               omega (arith, on_left e, works_is u b.rest b.lag, b.enough, ap (λ (k : ℕ). u.asked * k) one)
 
           more : 2 ≤ w
-          more =
-              ⊎_elim (λ y. y)
-              (λ y.
-              let z : w - 1 ≡ 0 = omega arith in
-              absurd (omega (arith, less, on_left e, (on_facts e).2, ap (λ (k : ℕ). u.asked * k) z))) (cases_lt 1 w)
+          more = grind (arith, on_left, on_facts, cases_lt)
 
           after : All (λ y. suc n < y.key) d
           after =
               all_imp (Delayed rows) (λ y. suc n < y.key)
-              (λ y a. omega (arith, a.1.1, (b.others y.row a.0 (λ eq. omega (arith, a.1.0, pos, ap (λ (k : ℕ). (row_at rows k).rem) eq))).1, more)) d shape.delayed
+              (λ y a. omega (arith, a.1.1, (b.others y.row a.0 (λ eq. grind arith)).1, more)) d shape.delayed
 
           same_inner : elect (release_due ts (suc n) (give i m s)) ≡ give i m s
           same_inner = ap elect (released_none ts (suc n) d q (Some i) (give i m s).jobs after) ∙ elect_none (give i m s) b.alone

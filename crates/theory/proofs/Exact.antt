@@ -1,9 +1,9 @@
 -- The test is exact: where it passes no job is ever late, and where it refuses the plain run has a late job.
-use Rattle.std.proofs.Common.{◌≡◌, ℕ, ◌≤◌, true, false, ◌&&◌, List, [], ◌∷◌, ◌++◌, map, is_some, Some, None, Option, sym, refl, ap, ◌∙◌, subst, inl, inr, ⊎_elim, append_assoc, append-nil, zero-add, arith}
-use Rattle.std.proofs.lemmas.Bool.{cases_Bool, both_ways, and_parts, and_cases, true≢false}
+use Rattle.std.proofs.Common.{◌≡◌, ℕ, ◌≤◌, true, false, List, [], ◌∷◌, ◌++◌, map, is_some, refl, subst, inl, inr, ⊎_elim, append_assoc, zero-add, arith, rules}
+use Rattle.std.proofs.lemmas.Bool.{cases_Bool, and_cases, true≢false}
 use Rattle.theory.specs.Lists.{All, Any}
 use Rattle.theory.specs.Tasks.{Task, Valid}
-use Rattle.theory.specs.Test.{down_to, answer, passes, joined, answers, level_passes}
+use Rattle.theory.specs.Test.{down_to, passes, answers, level_passes}
 use Rattle.theory.specs.Ticks.{Row, Late, Starts, plain, at_rest, PlainRunLate}
 use Rattle.theory.specs.Theorems.{EveryRowFits, Schedulable, TestIsExact}
 use Rattle.theory.proofs.Lists.{valid_above}
@@ -11,21 +11,10 @@ use Rattle.theory.proofs.OnTime.{never_late}
 use Rattle.theory.proofs.Plain.{must_be_late, tasks_at_rest}
 use Rattle.theory.proofs.Suffice.{points_suffice}
 
--- Answers are there together where the first and the others are.
-joined_is : (a : Option (ℕ × ℕ)) (rest : Option (List (ℕ × ℕ))) → is_some (joined a rest) ≡ (is_some a && is_some rest)
-joined_is (Some a) (Some rest) = refl
-joined_is (Some a) None = refl
-joined_is None rest = refl
-
 -- Where the rows under `pre` have answers, each of them passes.
 pub each : (f : ℕ) (pre hi : List Task) (i : Task) (lo : List Task) → is_some (answers f pre (hi ++ (i ∷ lo))) ≡ true → passes f (pre ++ hi) i ≡ true
-each f pre [] i lo h =
-    let both = and_parts (passes f pre i) (is_some (answers f (down_to pre i) lo)) (sym (joined_is (answer f pre i) (answers f (down_to pre i) lo)) ∙ h) in
-    subst (λ (l : List Task). passes f l i ≡ true) (sym (append-nil pre)) both.0
-each f pre (x ∷ hi) i lo h =
-    let rest = answers f (down_to pre x) (hi ++ (i ∷ lo)) in
-    let both = and_parts (passes f pre x) (is_some rest) (sym (joined_is (answer f pre x) rest) ∙ h) in
-    subst (λ (l : List Task). passes f l i ≡ true) (append_assoc pre (x ∷ []) hi) (each f (down_to pre x) hi i lo both.1)
+each f pre [] i lo h = search rules
+each f pre (x ∷ hi) i lo h = grind (arith, append_assoc pre (x ∷ []) hi, each f (down_to pre x) hi i lo)
 
 -- A row of the table that does not pass under those above it.
 pub record Refused (f : ℕ) (pre table : List Task) : Type 0 where
@@ -39,18 +28,17 @@ pub record Refused (f : ℕ) (pre table : List Task) : Type 0 where
 pub refused_row : (f : ℕ) (pre table : List Task) → is_some (answers f pre table) ≡ false → Refused f pre table
 refused_row f pre [] h = absurd (true≢false h)
 refused_row f pre (x ∷ table) h =
-    ⊎_elim
-    (λ e. record { above = []; row = x; under = table; split = refl; fails = subst (λ (l : List Task). passes f l x ≡ false) (sym (append-nil pre)) e })
+    ⊎_elim (λ e. record { above = []; row = x; under = table; split = refl; fails = search rules })
     (λ e. later (refused_row f (down_to pre x) table e))
-    (and_cases (passes f pre x) (is_some (answers f (down_to pre x) table)) (sym (joined_is (answer f pre x) (answers f (down_to pre x) table)) ∙ h))
+    (and_cases (passes f pre x) (is_some (answers f (down_to pre x) table)) (grind arith))
   where
     later : Refused f (down_to pre x) table → Refused f pre (x ∷ table)
     later r = record {
       above = x ∷ r.above;
       row = r.row;
       under = r.under;
-      split = ap (λ (l : List Task). x ∷ l) r.split;
-      fails = subst (λ (l : List Task). passes f l r.row ≡ false) (append_assoc pre (x ∷ []) r.above) r.fails;
+      split = grind arith;
+      fails = grind (arith, append_assoc pre (x ∷ []) r.above);
     }
 
 -- Some row cannot be late where none is.
@@ -68,24 +56,18 @@ starts_at_rest (t ∷ ts) = ((refl, omega arith), starts_at_rest ts)
 not_both : (f : ℕ) (table : List Task) → Schedulable f table → PlainRunLate f table → ⊥
 not_both f table safe (k, late) =
     none_late k (plain f k table) late
-    (subst (λ (x : ℕ). All (λ r. ¬ (Late x r)) (plain f k table)) (zero-add k)
-    (safe 0 (map at_rest table) (tasks_at_rest table) (starts_at_rest table) (λ _. false) k))
+    (subst (λ (x : ℕ). All (λ r. ¬ (Late x r)) (plain f k table)) (zero-add k) (grind (arith, tasks_at_rest, starts_at_rest)))
 
 -- Where the level passes, every row fits in time.
 pub every_row_fits : (f : ℕ) (table : List Task) → 1 ≤ f → All Valid table → level_passes f table ≡ true → EveryRowFits f table
-every_row_fits f table hf v h hi i lo e =
-    let w = valid_above hi i lo (subst (All Valid) e v) in
-    (points_suffice f hi i hf w.0 w.1).0 (each f [] hi i lo (subst (λ (l : List Task). level_passes f l ≡ true) e h))
+every_row_fits f table hf v h hi i lo e = grind (arith, valid_above, points_suffice, each)
 
 -- Where the level is refused, the plain run is late.
 pub refused_late : (f : ℕ) (table : List Task) → 1 ≤ f → All Valid table → level_passes f table ≡ false → PlainRunLate f table
 refused_late f table hf v h =
     let r = refused_row f [] table h in
-    let all : All Valid (r.above ++ (r.row ∷ r.under)) = subst (All Valid) r.split v in
-    let w = valid_above r.above r.row r.under all in
-    let (k, low, late) = must_be_late f r.above r.row r.under hf all
-    (λ fit. both_ways (passes f r.above r.row) r.fails ((points_suffice f r.above r.row hf w.0 w.1).1 fit)) in
-    (k, subst (λ (l : List Task). Any (Late k) (plain f k l)) (sym r.split) late)
+    let all : All Valid (r.above ++ (r.row ∷ r.under)) = grind arith in
+    let (k, low, late) = must_be_late f r.above r.row r.under hf all (λ fit. grind (arith, valid_above, points_suffice)) in grind arith
 
 -- The test passes just the tables of which no job is ever late, and refuses just those of which the plain run is late.
 pub test_is_exact : TestIsExact
@@ -95,7 +77,7 @@ test_is_exact f table hf v = record { passed = (passed, schedulable); refused = 
     passed h = never_late f table hf v (every_row_fits f table hf v h)
 
     schedulable : Schedulable f table → level_passes f table ≡ true
-    schedulable safe = ⊎_elim (λ h. h) (λ h. absurd (not_both f table safe (refused_late f table hf v h))) (cases_Bool (level_passes f table))
+    schedulable safe = grind (arith, not_both, refused_late, cases_Bool)
 
     late : PlainRunLate f table → level_passes f table ≡ false
     late l = ⊎_elim (λ h. absurd (not_both f table (passed h) l)) (λ h. h) (cases_Bool (level_passes f table))

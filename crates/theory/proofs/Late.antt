@@ -1,12 +1,12 @@
 -- The plain run from tick to tick: what is left of the jobs, after the releases and after the service.
-use Rattle.std.proofs.Common.{◌≡◌, ℕ, zero, suc, ◌+◌, ◌*◌, ◌<◌, ◌≤◌, false, ◌⊎◌, List, [], ◌∷◌, map, length, refl, ap, ◌∙◌, inl, inr, ⊎_elim, arith}
+use Rattle.std.proofs.Common.{◌≡◌, ℕ, zero, suc, ◌+◌, ◌*◌, ◌<◌, ◌≤◌, false, ◌⊎◌, List, [], ◌∷◌, map, length, refl, ap, inl, inr, arith}
 use Rattle.std.proofs.lemmas.Bool.{cases_lt}
 use Rattle.theory.specs.Lists.{All, Any}
 use Rattle.theory.specs.Tasks.{Valid, cdiv, cost}
-use Rattle.theory.specs.Ticks.{Row, released, given, serve, tick, Late, tasks}
-use Rattle.theory.proofs.Cdiv.{cdiv_is, cdiv_above, cdiv_tight, cdiv_none, cdiv_less}
-use Rattle.theory.proofs.Places.{sum_to, At, all_map, by_release, by_serve, all_serve, asks}
-use Rattle.theory.proofs.Ticks.{left, still}
+use Rattle.theory.specs.Ticks.{Row, released, serve, tick, Late, tasks}
+use Rattle.theory.proofs.Cdiv.{cdiv_none, cdiv_less}
+use Rattle.theory.proofs.Places.{sum_to, At, all_map, by_release, all_serve, asks}
+use Rattle.theory.proofs.Ticks.{left}
 
 -- Some row is late, or none is.
 pub late_or_not : (n : ℕ) (s : List Row) → Any (Late n) s ⊎ All (λ r. ¬ (Late n r)) s
@@ -39,39 +39,10 @@ pub record Steady (t : ℕ) (r : Row) : Type 0 where
   pub next_is : r.next ≡ cdiv t r.task.period * r.task.period
   pub due_by : 0 < r.rem → r.due ≤ r.next
 
--- After a multiple of the period, the next tick has one release more.
-one_more : (t T : ℕ) → 1 ≤ T → cdiv t T * T ≡ t → cdiv (suc t) T ≡ cdiv t T + 1
-one_more t T h e = cdiv_is (suc t) T (cdiv t T + 1) h (omega arith) (omega arith)
-
--- Between two multiples of the period, the next tick has no release more.
-no_more : (t T : ℕ) → 1 ≤ T → (cdiv t T * T ≡ t → ⊥) → cdiv (suc t) T ≡ cdiv t T
-no_more t T h e =
-    let up = cdiv_above t T h in
-    let down = cdiv_tight t T h in
-    cdiv_is (suc t) T (cdiv t T) h (omega arith) (omega arith)
-
--- The releases keep a row steady.
-steady_released : (t : ℕ) (r : Row) → Steady t r → Steady (suc t) (released t r)
-steady_released t r g =
-    by_release t r (Steady (suc t))
-    (λ q.
-    let v : Valid r.task = g.valid in
-    let m = one_more t T (omega arith) (omega (arith, g.next_is)) in
-    record { valid = v; next_is = omega (arith, g.next_is, ap (λ (x : ℕ). x * T) m); due_by = λ _. omega arith })
-    (λ q.
-    let v : Valid r.task = g.valid in
-    let m = no_more t T (omega arith) (λ e. q (g.next_is ∙ e)) in
-    record { valid = v; next_is = omega (arith, g.next_is, ap (λ (x : ℕ). x * T) m); due_by = g.due_by })
-  where
-    T : ℕ
-    T = r.task.period
-
 -- A tick keeps the rows steady.
 pub steady_tick : (f t : ℕ) (s : List Row) → All (Steady t) s → All (Steady (suc t)) (tick f false t s)
 steady_tick f t s g =
-    all_serve f false (Steady (suc t))
-    (λ r a. record { valid = a.valid; next_is = a.next_is; due_by = λ k. a.due_by (still f false r k) }) (map (released t) s)
-    (all_map (released t) (Steady t) (Steady (suc t)) (steady_released t) s g)
+    all_serve f false (Steady (suc t)) (λ r a. grind arith) (map (released t) s) (all_map (released t) (Steady t) (Steady (suc t)) (λ r a. grind arith) s g)
 
 -- Where a row is not late, its release adds to what is left just what it asks for more.
 left_released : (f t : ℕ) (r : Row) → 1 ≤ f → Steady t r → ¬ (Late t r) →
@@ -79,17 +50,10 @@ left_released : (f t : ℕ) (r : Row) → 1 ≤ f → Steady t r → ¬ (Late t 
 left_released f t r hf g ok =
     by_release t r (λ x. left f x + asks f t r.task ≡ left f r + asks f (suc t) r.task)
     (λ q.
-    let v : Valid r.task = g.valid in
-    let m = one_more t T (omega arith) (omega (arith, g.next_is)) in
-    let z : r.rem ≡ 0 = ⊎_elim (λ k. absurd (ok (k, omega (arith, g.due_by k)))) (λ k. omega arith) (cases_lt 0 r.rem) in
+    let z : r.rem ≡ 0 = grind arith in
+    let m : cdiv (suc t) r.task.period ≡ cdiv t r.task.period + 1 = grind arith in
     omega (arith, ap (λ (x : ℕ). cost f r.task * x) m, ap (λ (x : ℕ). cdiv x f) z, cdiv_none f hf))
-    (λ q.
-    let v : Valid r.task = g.valid in
-    let m = no_more t T (omega arith) (λ e. q (g.next_is ∙ e)) in
-    omega (arith, ap (λ (x : ℕ). cost f r.task * x) m))
-  where
-    T : ℕ
-    T = r.task.period
+    (λ q. let m : cdiv (suc t) r.task.period ≡ cdiv t r.task.period = grind arith in omega (arith, ap (λ (x : ℕ). cost f r.task * x) m))
 
 -- Over the first rows, the releases add to what is left just what is asked for more.
 pub left_release : (f t i : ℕ) (s : List Row) → 1 ≤ f → All (Steady t) s → All (λ r. ¬ (Late t r)) s →
@@ -104,21 +68,10 @@ pub left_serve : (f i : ℕ) (s : List Row) → 1 ≤ f → 0 < sum_to (left f) 
 left_serve f zero s hf h = absurd (omega arith)
 left_serve f (suc i) [] hf h = absurd (omega arith)
 left_serve f (suc i) (r ∷ s) hf h =
-    by_serve f false r s (λ l. sum_to (left f) (suc i) l + 1 ≡ sum_to (left f) (suc i) (r ∷ s))
-    (λ q. omega (arith, left_serve f i s hf (omega (arith, ap (λ (x : ℕ). cdiv x f) q, cdiv_none f hf))))
-    (λ q. omega (arith, cdiv_less r.rem f hf q))
-
--- Where ticks are left of a job, so are units.
-pub some_left : (f x : ℕ) → 1 ≤ f → 0 < cdiv x f → 0 < x
-some_left f zero hf h = absurd (omega (arith, cdiv_none f hf))
-some_left f (suc x) hf h = omega arith
+    grind (arith, left_serve f i s hf, cdiv_none, cdiv_less r.rem f)
 
 -- The service does not end the job at the place i before those above it.
 pub last_left : (f i : ℕ) (s : List Row) → 1 ≤ f → At (λ r. 0 < r.rem) i s → 0 < sum_to (left f) (suc i) (serve f false s) → At (λ r. 0 < r.rem) i (serve f false s)
 last_left f i [] hf a h = tt
-last_left f zero (r ∷ s) hf a h =
-    (by_serve f false r s (λ l. 0 < sum_to (left f) 1 l → At (λ x. 0 < x.rem) 0 l) (λ q k. absurd (omega arith))
-    (λ q k. some_left f (given f false r).rem hf (omega arith))) h
-last_left f (suc i) (r ∷ s) hf a h =
-    (by_serve f false r s (λ l. 0 < sum_to (left f) (suc (suc i)) l → At (λ x. 0 < x.rem) (suc i) l)
-    (λ q k. last_left f i s hf a (omega (arith, ap (λ (x : ℕ). cdiv x f) q, cdiv_none f hf))) (λ q k. a)) h
+last_left f zero (r ∷ s) hf a h = grind (arith, cdiv_none f hf)
+last_left f (suc i) (r ∷ s) hf a h = grind (arith, last_left f i s hf a, cdiv_none)

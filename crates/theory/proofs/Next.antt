@@ -1,11 +1,11 @@
 -- The next point at a time or after it: it is a point, none stands between, and no row asks for more there.
-use Rattle.std.proofs.Common.{◌≡◌, ℕ, ◌<◌, ◌≤◌, min, ◌⊎◌, List, [], ◌∷◌, refl, inl, inr, ⊎_elim, mul-le-mul_right, mul-le-mul_left, le-div_iff_mul-le, arith}
+use Rattle.std.proofs.Common.{◌≡◌, ℕ, ◌<◌, ◌≤◌, min, ◌⊎◌, List, [], ◌∷◌, refl, inl, inr, ⊎_elim, mul-le-mul_right, mul-le-mul_left, arith}
 use Rattle.std.proofs.lemmas.Bool.{cases_lt}
 use Rattle.theory.specs.Lists.{All, Any, In}
 use Rattle.theory.specs.Tasks.{Task, Valid, cdiv, cost, demand}
 use Rattle.theory.specs.Test.{down_to, points}
 use Rattle.theory.specs.Search.{period_end, next_point}
-use Rattle.theory.proofs.Cdiv.{cdiv_least, cdiv_above, cdiv_pos}
+use Rattle.theory.proofs.Cdiv.{cdiv_least}
 use Rattle.theory.proofs.Lists.{valid_above}
 use Rattle.theory.proofs.Points.{Multiple, points_are, points_have}
 
@@ -17,15 +17,12 @@ next_low (r ∷ rs) last t = omega (arith, next_low rs (min last (period_end r t
 -- The next point is not before the time that it is looked for from.
 next_high : (rows : List Task) (last t : ℕ) → All Valid rows → t ≤ last → t ≤ next_point rows last t
 next_high [] last t v h = h
-next_high (r ∷ rs) last t v h =
-    next_high rs (min last (period_end r t)) t v.1 (omega (arith, cdiv_above t r.period (omega arith)))
+next_high (r ∷ rs) last t v h = next_high rs (min last (period_end r t)) t v.1 (grind arith)
 
 -- No multiple of a row's period stands between t and the next point.
 next_before : (i : Task) (rows : List Task) (last t q : ℕ) → All Valid rows → Any (Multiple i q) rows → t ≤ q → next_point rows last t ≤ q
 next_before i [] last t q v a h = absurd a
-next_before i (r ∷ rs) last t q v (inl (m, some, few, e)) h =
-    let c : cdiv t r.period ≤ m = cdiv_least t r.period m (omega arith) (omega arith) in
-    omega (arith, mul-le-mul_right r.period c, next_low rs (min last (period_end r t)) t)
+next_before i (r ∷ rs) last t q v (inl (m, some, few, e)) h = grind (arith, cdiv_least, mul-le-mul_right, next_low)
 next_before i (r ∷ rs) last t q v (inr a) h = next_before i rs (min last (period_end r t)) t q v.1 a h
 
 -- The next point is the last one, or a multiple of a row's period.
@@ -38,16 +35,13 @@ next_is i (r ∷ rs) last t v ht h =
   where
     here : next_point rs (min last (period_end r t)) t ≡ min last (period_end r t) → period_end r t < last →
         Multiple i (next_point rs (min last (period_end r t)) t) r
-    here e k =
-        let pos : 1 ≤ r.period = omega arith in
-        (cdiv t r.period, cdiv_pos t r.period pos ht, (le-div_iff_mul-le pos).1 (omega arith), omega arith)
+    here e k = grind arith
 
 -- Up to the next point after t, the rows ask for no more than at t.
 pub next_asks_no_more : (f : ℕ) (rows : List Task) (last t u : ℕ) → All Valid rows → u ≤ next_point rows last t → demand f rows u ≤ demand f rows t
 next_asks_no_more f [] last t u v h = omega arith
 next_asks_no_more f (r ∷ rs) last t u v h =
-    let c : cdiv u r.period ≤ cdiv t r.period = cdiv_least u r.period (cdiv t r.period) (omega arith)
-    (omega (arith, next_low rs (min last (period_end r t)) t)) in
+    let c : cdiv u r.period ≤ cdiv t r.period = grind (arith, cdiv_least u r.period (cdiv t r.period), next_low) in
     omega (arith, mul-le-mul_left (cost f r) c, next_asks_no_more f rs (min last (period_end r t)) t u v.1 h)
 
 -- The next point of a row is not before the time that it is looked for from.
@@ -60,13 +54,8 @@ next_last hi i t = next_low (down_to hi i) i.deadline t
 
 -- The next point of a row is one of its points.
 pub next_is_point : (hi : List Task) (i : Task) (t : ℕ) → All Valid (down_to hi i) → 1 ≤ t → In (next_point (down_to hi i) i.deadline t) (points hi i)
-next_is_point hi i t all ht =
-    points_have i (down_to hi i) (next_point (down_to hi i) i.deadline t)
-    (⊎_elim (λ e. inl e) (λ a. inr (next_last hi i t, a))
-    (next_is i (down_to hi i) i.deadline t all ht (valid_above hi i [] all).1.in_period))
+next_is_point hi i t all ht = grind (arith, points_have, next_last, next_is, valid_above)
 
 -- No point of a row stands between t and the next point.
 pub next_first : (hi : List Task) (i : Task) (t q : ℕ) → All Valid (down_to hi i) → In q (points hi i) → t ≤ q → next_point (down_to hi i) i.deadline t ≤ q
-next_first hi i t q all m h =
-    ⊎_elim (λ e. omega (arith, next_last hi i t)) (λ a. next_before i (down_to hi i) i.deadline t q all a.1 h)
-    (points_are i (down_to hi i) q m)
+next_first hi i t q all m h = grind (arith, next_last, next_before, points_are)

@@ -1,24 +1,21 @@
 -- No job is late, and none is overwritten: every row keeps a target through the run.
-use Rattle.std.proofs.Common.{◌≡◌, ℕ, zero, suc, ◌+◌, ◌≤◌, Bool, List, [], ◌∷◌, map, length, sym, refl, ap, ◌∙◌, subst, ⊎_elim, arith}
-use Rattle.std.proofs.lemmas.Bool.{cases_lt}
+use Rattle.std.proofs.Common.{◌≡◌, ℕ, zero, suc, ◌+◌, ◌≤◌, Bool, List, [], ◌∷◌, map, refl, ◌∙◌, arith}
+use Rattle.std.proofs.lemmas.List.{length-map}
 use Rattle.theory.specs.Lists.{All}
-use Rattle.theory.specs.Tasks.{Valid, cdiv}
 use Rattle.theory.specs.Ticks.{Row, released, tick, run, Late, Starts, tasks}
 use Rattle.theory.specs.Theorems.{EveryRowFits, NeverLate, NeverOverwritten}
 use Rattle.theory.proofs.Cdiv.{cdiv_none}
-use Rattle.theory.proofs.Places.{sum_to, At, all_from_at, all_map, by_release, all_serve, tasks_tick, PassAt, pass_at}
-use Rattle.theory.proofs.Ticks.{left, Good, Inv, good_tick, inv_tick, still, anew, on_time, length_tasks, start_good, Due, start_due, all_both}
+use Rattle.theory.proofs.Lists.{all_two}
+use Rattle.theory.proofs.Places.{sum_to, At, all_from_at, all_map, all_serve, tasks_tick, PassAt, pass_at}
+use Rattle.theory.proofs.Ticks.{left, Good, Inv, good_tick, inv_tick, anew, on_time, start_good, Due, start_due}
 
 -- A row with a target is not late k ticks on.
 on_time_run : (f : ℕ) (early : ℕ → Bool) (i k n m : ℕ) (s : List Row) → 1 ≤ f → m ≡ n + k → All (Good n) s → PassAt f i (tasks s) → Inv f n i s →
     At (λ r. ¬ (Late m r)) i (run f early k n s)
-on_time_run f early i zero n m s hf e g pass inv =
-    let same : n ≡ m = omega arith in
-    subst (λ (x : ℕ). At (λ r. ¬ (Late x r)) i s) same (on_time f n i s inv)
+on_time_run f early i zero n m s hf e g pass inv = grind (arith, on_time f n i s inv)
 on_time_run f early i (suc k) n m s hf e g pass inv =
-    let s' = tick f (early n) n s in
-    on_time_run f early i k (suc n) m s' hf (omega arith) (good_tick f (early n) n s g)
-    (subst (PassAt f i) (sym (tasks_tick f (early n) n s)) pass) (inv_tick f (early n) n i s hf g pass inv)
+    on_time_run f early i k (suc n) m (tick f (early n) n s) hf (omega arith) (good_tick f (early n) n s g)
+    (grind (arith, tasks_tick)) (inv_tick f (early n) n i s hf g pass inv)
 
 -- A run leaves the tasks as they are.
 tasks_run : (f : ℕ) (early : ℕ → Bool) (k n : ℕ) (s : List Row) → tasks (run f early k n s) ≡ tasks s
@@ -29,32 +26,26 @@ tasks_run f early (suc k) n s = tasks_run f early k (suc n) (tick f (early n) n 
 start_idle : (f n i : ℕ) (s : List Row) → 1 ≤ f → All (Starts n) s → sum_to (left f) i s ≡ 0
 start_idle f n zero s hf a = refl
 start_idle f n (suc i) [] hf a = refl
-start_idle f n (suc i) (r ∷ s) hf a =
-    omega (arith, start_idle f n i s hf a.1, ap (λ (x : ℕ). cdiv x f) a.0.0, cdiv_none f hf)
+start_idle f n (suc i) (r ∷ s) hf a = grind (arith, start_idle f n i s, cdiv_none f)
 
 -- Where the demand of every row fits in time, no job is ever late, whatever the first releases and the early ends.
 pub never_late : NeverLate
 never_late f table hf valid fits n rows e starts early k =
-    let v : All Valid (tasks rows) = subst (All Valid) (sym e) valid in
-    let every : EveryRowFits f (tasks rows) = subst (EveryRowFits f) (sym e) fits in
+    let every : EveryRowFits f (tasks rows) = grind arith in
+    let g : All (Good n) rows = grind (arith, start_good) in
     all_from_at (λ r. ¬ (Late (n + k) r)) (run f early k n rows)
     (λ i h.
-    let same : length (tasks (run f early k n rows)) ≡ length (tasks rows) = ap length (tasks_run f early k n rows) in
-    let p : PassAt f i (tasks rows) = pass_at f (tasks rows) every i (omega (arith, length_tasks (run f early k n rows))) in
-    let g = start_good n rows v starts in
-    on_time_run f early i k n (n + k) rows hf refl g p (anew f n i rows hf g p (start_idle f n (suc i) rows hf starts)))
+    let p : PassAt f i (tasks rows) = grind (arith, pass_at, tasks_run, length-map) in
+    on_time_run f early i k n (n + k) rows hf refl g p (grind (arith, anew, start_idle)))
 
 -- Through a run, unfinished jobs are due by the next release.
 due_run : (f : ℕ) (early : ℕ → Bool) (k n : ℕ) (s : List Row) → All Due s → All Due (run f early k n s)
 due_run f early zero n s a = a
 due_run f early (suc k) n s a =
     due_run f early k (suc n) (tick f (early n) n s)
-    (all_serve f (early n) Due (λ r d. (d.0, λ h. d.1 (still f (early n) r h))) (map (released n) s)
-    (all_map (released n) Due Due (λ r d. by_release n r Due (λ _. (d.0, λ _. omega arith)) (λ _. d)) s a))
+    (all_serve f (early n) Due (λ r d. grind arith) (map (released n) s)
+    (all_map (released n) Due Due (λ r d. grind arith) s a))
 
 -- Nor does a release ever find the last job of its row unfinished.
 pub never_overwritten : NeverOverwritten
-never_overwritten f n rows hf v starts fits early k =
-    all_both (λ r. ¬ (Late (n + k) r)) Due (λ r. r.next ≡ n + k → r.rem ≡ 0)
-    (λ r ok d e. ⊎_elim (λ h. absurd (ok (h, omega (arith, d.1 h)))) (λ h. omega arith) (cases_lt 0 r.rem))
-    (run f early k n rows) (never_late f (tasks rows) hf v fits n rows refl starts early k) (due_run f early k n rows (start_due n rows v starts))
+never_overwritten f n rows hf v starts fits early k = grind (arith, all_two, never_late, due_run, start_due)

@@ -1,6 +1,5 @@
 -- Sums over the first rows, and what holds of the row at a place.
-use Rattle.std.proofs.Common.{◌≡◌, ℕ, zero, suc, ◌+◌, ◌*◌, ◌<◌, ◌≤◌, Bool, eqb, List, [], ◌∷◌, ◌++◌, map, length, sym, refl, ap, ◌∙◌, append_assoc, arith}
-use Rattle.std.proofs.lemmas.Bool.{cond_both, eqb-true, eqb-false}
+use Rattle.std.proofs.Common.{◌≡◌, ℕ, zero, suc, ◌+◌, ◌*◌, ◌<◌, ◌≤◌, Bool, List, [], ◌∷◌, ◌++◌, map, length, refl, ◌∙◌, append_assoc, arith}
 use Rattle.theory.specs.Lists.{All}
 use Rattle.theory.specs.Tasks.{Task, cdiv, cost, demand}
 use Rattle.theory.specs.Ticks.{Row, fresh, released, given, serve, tick, tasks}
@@ -56,40 +55,28 @@ all_map f P Q h (x ∷ xs) a = (h x a.0, all_map f P Q h xs a.1)
 -- What holds of a row after its release, where it has one, and of the row itself, where it has none, holds of the row after
 -- the releases.
 pub by_release : (n : ℕ) (r : Row) (P : Row → Type 0) → (r.next ≡ n → P (fresh n r)) → ((r.next ≡ n → ⊥) → P r) → P (released n r)
-by_release n r P yes' no' =
-    cond_both (eqb r.next n) (fresh n r) r P (λ e. yes' (eqb-true r.next n e)) (λ e. no' (eqb-false r.next n e))
-
--- What holds of the rows where the first has no job, and where it is served, holds of the rows after the service.
-pub by_serve : (f : ℕ) (b : Bool) (r : Row) (rs : List Row) (P : List Row → Type 0) →
-    (r.rem ≡ 0 → P (r ∷ serve f b rs)) → (0 < r.rem → P (given f b r ∷ rs)) → P (serve f b (r ∷ rs))
-by_serve f b r rs P none some =
-    cond_both (eqb r.rem 0) (r ∷ serve f b rs) (given f b r ∷ rs) P (λ e. none (eqb-true r.rem 0 e))
-    (λ e. let h = eqb-false r.rem 0 e in some (omega arith))
+by_release n r P yes' no' = grind arith
 
 -- The service keeps what each row keeps when it is given units.
 pub all_serve : (f : ℕ) (b : Bool) (P : Row → Type 0) → ((r : Row) → P r → P (given f b r)) → (rs : List Row) → All P rs → All P (serve f b rs)
 all_serve f b P h [] a = tt
-all_serve f b P h (r ∷ rs) a =
-    by_serve f b r rs (All P) (λ _. (a.0, all_serve f b P h rs a.1)) (λ _. (h r a.0, a.1))
+all_serve f b P h (r ∷ rs) a = grind (arith, all_serve f b P h rs, h r)
 
 -- At the place i, the service keeps what a row keeps when it is given units.
 pub at_serve : (f : ℕ) (b : Bool) (P : Row → Type 0) → ((r : Row) → P r → P (given f b r)) → (i : ℕ) (rs : List Row) → At P i rs → At P i (serve f b rs)
 at_serve f b P h i [] a = tt
-at_serve f b P h zero (r ∷ rs) a = by_serve f b r rs (At P 0) (λ _. a) (λ _. h r a)
-at_serve f b P h (suc i) (r ∷ rs) a = by_serve f b r rs (At P (suc i)) (λ _. at_serve f b P h i rs a) (λ _. a)
+at_serve f b P h zero (r ∷ rs) a = grind arith
+at_serve f b P h (suc i) (r ∷ rs) a = grind (arith, at_serve f b P h i rs)
 
 -- The service leaves the tasks as they are.
 pub tasks_serve : (f : ℕ) (b : Bool) (rs : List Row) → tasks (serve f b rs) ≡ tasks rs
 tasks_serve f b [] = refl
-tasks_serve f b (r ∷ rs) =
-    by_serve f b r rs (λ l. tasks l ≡ tasks (r ∷ rs)) (λ _. ap (λ (l : List Task). r.task ∷ l) (tasks_serve f b rs)) (λ _. refl)
+tasks_serve f b (r ∷ rs) = grind (arith, tasks_serve f b rs)
 
 -- The releases leave the tasks as they are.
 pub tasks_release : (n : ℕ) (rs : List Row) → tasks (map (released n) rs) ≡ tasks rs
 tasks_release n [] = refl
-tasks_release n (r ∷ rs) =
-    by_release n r (λ x. (x.task ∷ tasks (map (released n) rs)) ≡ (r.task ∷ tasks rs)) (λ _. ap (λ (l : List Task). r.task ∷ l) (tasks_release n rs))
-    (λ _. ap (λ (l : List Task). r.task ∷ l) (tasks_release n rs))
+tasks_release n (r ∷ rs) = grind (arith, tasks_release n rs)
 
 -- A tick leaves the tasks as they are.
 pub tasks_tick : (f : ℕ) (b : Bool) (n : ℕ) (rs : List Row) → tasks (tick f b n rs) ≡ tasks rs
@@ -108,11 +95,10 @@ pass_from : (f : ℕ) (pre ts : List Task) → EveryRowFits f (pre ++ ts) → (i
     (p : ℕ) × (1 ≤ p) × At (λ t. p ≤ t.deadline) i ts × (demand f pre p + sum_to (asks f p) (suc i) ts ≤ p)
 pass_from f pre [] pass i h = absurd (omega arith)
 pass_from f pre (t ∷ ts) pass zero h =
-    let (p, some, low, fits) = pass pre t ts refl in
-    (p, some, low, omega (arith, demand_append f pre (t ∷ []) p))
+    let (p, some, low, fits) = pass pre t ts refl in grind (arith, demand_append)
 pass_from f pre (t ∷ ts) pass (suc i) h =
-    let (p, some, low, fits) = pass_from f (pre ++ (t ∷ [])) ts (λ hi j lo e. pass hi j lo (sym (append_assoc pre (t ∷ []) ts) ∙ e)) i (omega arith) in
-    (p, some, low, omega (arith, demand_append f pre (t ∷ []) p))
+    let (p, some, low, fits) = pass_from f (pre ++ (t ∷ [])) ts (grind (arith, append_assoc pre (t ∷ []) ts)) i (omega arith) in
+    grind (arith, demand_append)
 
 -- Where every row of a table fits, so does the one at each place.
 pub pass_at : (f : ℕ) (ts : List Task) → EveryRowFits f ts → (i : ℕ) → i < length ts → PassAt f i ts

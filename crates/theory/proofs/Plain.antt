@@ -1,16 +1,17 @@
 -- A row whose demand does not fit is not finished before its deadline in the plain run, unless another row is late first.
-use Rattle.std.proofs.Common.{◌≡◌, ℕ, zero, suc, ◌+◌, ◌*◌, ◌<◌, ◌≤◌, false, ◌⊎◌, List, [], ◌∷◌, ◌++◌, map, length, sym, refl, ap, subst, inl, inr, ⊎_elim, mul-le-mul_right, arith}
+use Rattle.std.proofs.Common.{◌≡◌, ℕ, zero, suc, ◌+◌, ◌<◌, ◌≤◌, false, List, [], ◌∷◌, ◌++◌, map, length, sym, refl, ap, subst, ⊎_elim, arith, length-append, rules}
+use Rattle.std.proofs.lemmas.List.{length-map}
 use Rattle.std.proofs.lemmas.Bool.{cases_lt}
 use Rattle.theory.specs.Lists.{All, Any}
-use Rattle.theory.specs.Tasks.{Task, Valid, cdiv, cost, demand}
+use Rattle.theory.specs.Tasks.{Task, Valid, demand}
 use Rattle.theory.specs.Test.{down_to}
 use Rattle.theory.specs.Ticks.{Row, released, tick, run, Late, tasks, at_rest}
 use Rattle.theory.specs.Theorems.{MustBeLate}
-use Rattle.theory.proofs.Cdiv.{cdiv_none, cdiv_pos}
+use Rattle.theory.proofs.Cdiv.{cdiv_none}
 use Rattle.theory.proofs.Late.{late_or_not, any_from_at, at_from_all, Steady, steady_tick, left_release, left_serve, last_left}
 use Rattle.theory.proofs.Lists.{valid_above}
 use Rattle.theory.proofs.Places.{sum_to, At, at_imp, at_map, at_both, all_map, by_release, at_serve, tasks_tick, asks}
-use Rattle.theory.proofs.Ticks.{left, length_tasks}
+use Rattle.theory.proofs.Ticks.{left}
 
 -- What is asked for down to the place i fits at no time up to d.
 abbrev Fails : ℕ → ℕ → ℕ → List Task → Type 0
@@ -31,21 +32,7 @@ pub record Inv (f i d t : ℕ) (s : List Row) : Type 0 where
 -- The row is released at 0, and not again before d.
 waits_released : (t d : ℕ) (r : Row) → t < d → Steady t r → Waits d t r → ((released t r).task.deadline ≡ d) × (0 < (released t r).rem) × ((released t r).due ≡ d)
 waits_released t d r h g w =
-    by_release t r (λ x. (x.task.deadline ≡ d) × (0 < x.rem) × (x.due ≡ d))
-    (λ q.
-    let z : t ≡ 0 = ⊎_elim
-    (λ k. absurd (omega (arith, mul-le-mul_right T (cdiv_pos t T TPos k)))) (λ k. omega arith) (cases_lt 0 t) in
-    (w.0, omega arith, omega arith))
-    (λ q. ⊎_elim (λ k. (w.0, (w.1 k).0, (w.1 k).1)) (λ k. absurd (q (first (omega arith)))) (cases_lt 0 t))
-  where
-    T : ℕ
-    T = r.task.period
-
-    TPos : 1 ≤ T
-    TPos = let v : Valid r.task = g.valid in omega arith
-
-    first : t ≡ 0 → r.next ≡ t
-    first z = omega (arith, g.next_is, ap (λ (x : ℕ). cdiv x T * T) z, ap (λ (x : ℕ). x * T) (cdiv_none T TPos))
+    by_release t r (λ x. (x.task.deadline ≡ d) × (0 < x.rem) × (x.due ≡ d)) (grind arith) (λ q. grind arith)
 
 -- A tick keeps that, where no row is late.
 inv_tick : (f i d t : ℕ) (s : List Row) → 1 ≤ f → t < d → All (λ r. ¬ (Late t r)) s → Inv f i d t s → Inv f i d (suc t) (tick f false t s)
@@ -65,10 +52,10 @@ inv_tick f i d t s hf h ok inv =
     fails' = subst (Fails f i d) (sym same) inv.fails
 
     more : suc t < sum_to (asks f (suc t)) (suc i) (tasks s)
-    more = inv.fails.1 (suc t) (omega arith) (omega arith)
+    more = grind arith
 
     moved : sum_to (left f) (suc i) s₁ + t ≡ sum_to (asks f (suc t)) (suc i) (tasks s)
-    moved = omega (arith, left_release f t (suc i) s hf inv.steady ok, inv.sums)
+    moved = omega (arith, left_release)
 
     less : sum_to (left f) (suc i) s₂ + 1 ≡ sum_to (left f) (suc i) s₁
     less = left_serve f (suc i) s₁ hf (omega (arith, moved, more))
@@ -101,19 +88,14 @@ found f i d zero t s hf hd e inv = (
   t,
   omega arith,
   omega arith,
-  any_from_at (Late t) i s (omega (arith, inv.fails.0, length_tasks s))
-      (at_imp (Waits d t) (Late t) (λ r w. let p = w.1 (omega arith) in (p.0, omega arith)) i s inv.waits),
+  any_from_at (Late t) i s (omega (arith, inv.fails.0, length-map s (λ r. r.task))) (grind (arith, at_imp)),
 )
-found f i d (suc l) t s hf hd e inv = go (late_or_not t s) (λ ok. found f i d l (suc t) (tick f false t s) hf hd (omega arith) (inv_tick f i d t s hf (omega arith) ok inv))
-  where
-    Goal : Type 0
-    Goal = (k : ℕ) × (m : ℕ) × (m ≡ t + k) × (k ≤ suc l) × Any (Late m) (run f (λ _. false) k t s)
-
-    go : Any (Late t) s ⊎ All (λ r. ¬ (Late t r)) s →
-        (All (λ r. ¬ (Late t r)) s → (k : ℕ) × (m : ℕ) × (m ≡ suc t + k) × (k ≤ l) × Any (Late m) (run f (λ _. false) k (suc t) (tick f false t s))) →
-        Goal
-    go (inl a) next = (0, t, omega arith, omega arith, a)
-    go (inr ok) next = let (k, m, em, h, a) = next ok in (suc k, m, omega arith, omega arith, a)
+found f i d (suc l) t s hf hd e inv =
+    ⊎_elim (λ a. (0, t, omega arith, omega arith, a))
+    (λ ok.
+    let (k, m, em, h, a) = found f i d l (suc t) (tick f false t s) hf hd (omega arith) (inv_tick f i d t s hf (omega arith) ok inv) in
+    (suc k, m, omega arith, omega arith, a))
+    (late_or_not t s)
 
 -- What holds of x holds at its place.
 place_at : {X : Type 0} (P : X → Type 0) (hi : List X) (x : X) (lo : List X) → P x → At P (length hi) (hi ++ (x ∷ lo))
@@ -122,8 +104,7 @@ place_at P (y ∷ hi) x lo p = place_at P hi x lo p
 
 -- The place of x is within the list.
 place_in : {X : Type 0} (hi : List X) (x : X) (lo : List X) → length hi < length (hi ++ (x ∷ lo))
-place_in [] x lo = omega arith
-place_in (y ∷ hi) x lo = omega (arith, place_in hi x lo)
+place_in hi x lo = omega (arith, length-append hi (x ∷ lo))
 
 -- The sum down to the place of a row is the demand of the rows down to it.
 place_sum : (f t : ℕ) (hi : List Task) (x : Task) (lo : List Task) → sum_to (asks f t) (suc (length hi)) (hi ++ (x ∷ lo)) ≡ demand f (down_to hi x) t
@@ -138,26 +119,20 @@ tasks_at_rest (t ∷ ts) = ap (λ (l : List Task). t ∷ l) (tasks_at_rest ts)
 -- The rows at rest are steady at tick 0.
 start_steady : (ts : List Task) → All Valid ts → All (Steady 0) (map at_rest ts)
 start_steady ts v =
-    all_map at_rest Valid (Steady 0)
-    (λ t w.
-    let p : 1 ≤ t.period = omega arith in
-    record { valid = w; next_is = omega (arith, ap (λ (x : ℕ). x * t.period) (cdiv_none t.period p)); due_by = λ k. absurd (omega arith) })
-    ts v
+    all_map at_rest Valid (Steady 0) (grind arith) ts v
 
 -- At tick 0 nothing is left, and nothing is asked for.
 start_sums : (f i : ℕ) (ts : List Task) → 1 ≤ f → All Valid ts → sum_to (left f) i (map at_rest ts) + 0 ≡ sum_to (asks f 0) i ts
 start_sums f zero ts hf v = refl
 start_sums f (suc i) [] hf v = refl
 start_sums f (suc i) (t ∷ ts) hf v =
-    let p : 1 ≤ t.period = omega (arith, v.0) in
-    omega (arith, start_sums f i ts hf v.1, cdiv_none f hf, ap (λ (x : ℕ). cost f t * x) (cdiv_none t.period p))
+    grind (arith, start_sums f i ts, cdiv_none f, cdiv_none t.period)
 
 -- Where the demand of a row does not fit in time, the plain run has a late job by the deadline of that row.
 pub must_be_late : MustBeLate
 must_be_late f hi i lo hf v no_fit =
     let (k, m, e, h, a) = found f (length hi) d d 0 s hf pos (omega arith) start in
-    let same : m ≡ k = omega arith in
-    (k, h, subst (λ (x : ℕ). Any (Late x) (run f (λ _. false) k 0 s)) same a)
+    grind arith
   where
     table : List Task
     table = hi ++ (i ∷ lo)
@@ -172,16 +147,13 @@ must_be_late f hi i lo hf v no_fit =
     pos = (valid_above hi i lo v).1.some_time
 
     over : (t : ℕ) → 1 ≤ t → t ≤ d → t < sum_to (asks f t) (suc (length hi)) table
-    over t ht hd =
-        let same = place_sum f t hi i lo in
-        ⊎_elim (λ h. omega arith) (λ h. absurd (no_fit (t, ht, hd, h))) (cases_lt t (demand f (down_to hi i) t))
+    over t ht hd = grind (arith, place_sum, cases_lt)
 
     start : Inv f (length hi) d 0 s
     start = record {
       fails = subst (Fails f (length hi) d) (sym (tasks_at_rest table)) (place_in hi i lo, over);
       steady = start_steady table v;
-      sums = subst (λ (l : List Task). sum_to (left f) (suc (length hi)) s + 0 ≡ sum_to (asks f 0) (suc (length hi)) l) (sym (tasks_at_rest table))
-          (start_sums f (suc (length hi)) table hf v);
-      waits = at_map at_rest (λ t. t.deadline ≡ d) (Waits d 0) (λ t e. (e, λ k. absurd (omega arith))) (length hi) table
+      sums = search (rules, tasks_at_rest, start_sums);
+      waits = at_map at_rest (λ t. t.deadline ≡ d) (Waits d 0) (λ t e. grind arith) (length hi) table
           (place_at (λ t. t.deadline ≡ d) hi i lo refl);
     }

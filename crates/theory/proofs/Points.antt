@@ -1,6 +1,6 @@
 -- The listed points of a row: its deadline, and the multiples of the rows' periods up to it.
-use Rattle.std.proofs.Common.{◌≡◌, ℕ, zero, suc, ◌*◌, ◌/◌, ◌≤◌, leb, ◌⊎◌, List, [], ◌∷◌, sym, subst, inl, inr, ⊎_elim, mul-le-mul_left, arith}
-use Rattle.std.proofs.lemmas.Bool.{cases_lt, cond_both, leb-true, leb-false}
+use Rattle.std.proofs.Common.{◌≡◌, ℕ, zero, suc, ◌*◌, ◌/◌, ◌≤◌, ◌⊎◌, List, [], ◌∷◌, inl, inr, ⊎_elim, mul-le-mul_left, arith, nat_le, rules}
+use Rattle.std.proofs.lemmas.Bool.{cases_lt, cond_both}
 use Rattle.theory.specs.Lists.{All, Any, In}
 use Rattle.theory.specs.Tasks.{Task, Valid}
 use Rattle.theory.specs.Test.{down_to, multiples, points_of, points}
@@ -22,29 +22,24 @@ Listed d p n t = (m : ℕ) × (1 ≤ m) × (m ≤ n) × (t ≡ m * p) × (t ≤ 
 multiples_are : (d p n t : ℕ) → In t (multiples d p n) → Listed d p n t
 multiples_are d p zero t a = absurd a
 multiples_are d p (suc n) t a =
-    (cond_both (leb (suc n * p) d) (suc n * p ∷ multiples d p n) (multiples d p n) (λ l. In t l → Listed d p (suc n) t)
-    (λ e b. ⊎_elim (λ q. (suc n, omega arith, omega arith, sym q, omega (arith, leb-true (suc n * p) d e))) (λ c. up (multiples_are d p n t c)) b)
+    (cond_both (nat_le (suc n * p) d) (suc n * p ∷ multiples d p n) (multiples d p n) (λ l. In t l → Listed d p (suc n) t)
+    (λ e b. ⊎_elim (λ q. grind arith) (λ c. up (multiples_are d p n t c)) b)
     (λ e b. up (multiples_are d p n t b))) a
   where
     up : Listed d p n t → Listed d p (suc n) t
-    up (m, some, few, e, low) = (m, some, omega arith, e, low)
+    up (m, some, few, e, low) = grind arith
 
 -- Every such multiple stands in the list of them.
 multiples_have : (d p n t : ℕ) → Listed d p n t → In t (multiples d p n)
 multiples_have d p zero t (m, some, few, e, low) = absurd (omega arith)
 multiples_have d p (suc n) t (m, some, few, e, low) =
-    cond_both (leb (suc n * p) d) (suc n * p ∷ multiples d p n) (multiples d p n) (In t)
-    (λ q. ⊎_elim (λ h. inr (multiples_have d p n t (m, some, omega arith, e, low))) (λ h. inl (here h)) (cases_lt m (suc n)))
-    (λ q. ⊎_elim (λ h. multiples_have d p n t (m, some, omega arith, e, low)) (λ h. absurd (omega (arith, here h, leb-false (suc n * p) d q)))
-    (cases_lt m (suc n)))
-  where
-    here : suc n ≤ m → suc n * p ≡ t
-    here h = let q : suc n ≡ m = omega arith in subst (λ (x : ℕ). x * p ≡ t) (sym q) (sym e)
+    cond_both (nat_le (suc n * p) d) (suc n * p ∷ multiples d p n) (multiples d p n) (In t)
+    (λ q. ⊎_elim (λ h. inr (multiples_have d p n t (grind arith))) (λ h. inl (grind arith)) (cases_lt m (suc n)))
+    (λ q. ⊎_elim (λ h. multiples_have d p n t (grind arith)) (λ h. grind arith) (cases_lt m (suc n)))
 
 -- What is listed as a point is one.
 pub points_are : (i : Task) (rows : List Task) (t : ℕ) → In t (points_of i rows) → Point i rows t
-points_are i [] t (inl e) = inl (sym e)
-points_are i [] t (inr a) = absurd a
+points_are i [] t a = grind arith
 points_are i (r ∷ rs) t a =
     ⊎_elim (λ b. here (multiples_are i.deadline r.period (i.period / r.period) t b)) (λ b. there (points_are i rs t b))
     (in_either t (multiples i.deadline r.period (i.period / r.period)) (points_of i rs) a)
@@ -53,30 +48,20 @@ points_are i (r ∷ rs) t a =
     here (m, some, few, e, low) = inr (low, inl (m, some, few, e))
 
     there : Point i rs t → Point i (r ∷ rs) t
-    there (inl e) = inl e
-    there (inr (low, b)) = inr (low, inr b)
+    there b = grind arith
 
 -- Every point is listed.
 pub points_have : (i : Task) (rows : List Task) (t : ℕ) → Point i rows t → In t (points_of i rows)
-points_have i [] t (inl e) = inl (sym e)
-points_have i [] t (inr (low, a)) = absurd a
-points_have i (r ∷ rs) t (inl e) = in_right t (multiples i.deadline r.period (i.period / r.period)) (points_of i rs) (points_have i rs t (inl e))
-points_have i (r ∷ rs) t (inr (low, inl (m, some, few, e))) =
-    in_left t (multiples i.deadline r.period (i.period / r.period)) (points_of i rs)
-    (multiples_have i.deadline r.period (i.period / r.period) t (m, some, few, e, low))
-points_have i (r ∷ rs) t (inr (low, inr a)) =
-    in_right t (multiples i.deadline r.period (i.period / r.period)) (points_of i rs) (points_have i rs t (inr (low, a)))
+points_have i [] t p = grind arith
+points_have i (r ∷ rs) t (inl e) = grind (arith, in_right, points_have i rs t)
+points_have i (r ∷ rs) t (inr (low, inl (m, some, few, e))) = search (rules, in_left, multiples_have)
+points_have i (r ∷ rs) t (inr (low, inr a)) = grind (arith, in_right, points_have i rs t)
 
 -- A multiple of a period is not before the first tick.
 multiple_pos : (i : Task) (t : ℕ) (rows : List Task) → All Valid rows → Any (Multiple i t) rows → 1 ≤ t
 multiple_pos i t [] v a = absurd a
-multiple_pos i t (r ∷ rs) v (inl (m, some, few, e)) = let p : 1 ≤ r.period = omega arith in omega (arith, mul-le-mul_left m p)
-multiple_pos i t (r ∷ rs) v (inr a) = multiple_pos i t rs v.1 a
+multiple_pos i t (r ∷ rs) v a = grind (arith, multiple_pos i t rs, mul-le-mul_left)
 
 -- The points of a row stand from the first tick to its deadline.
 pub point_bounds : (hi : List Task) (i : Task) (t : ℕ) → All Valid (down_to hi i) → In t (points hi i) → (1 ≤ t) × (t ≤ i.deadline)
-point_bounds hi i t all m = by (points_are i (down_to hi i) t m)
-  where
-    by : Point i (down_to hi i) t → (1 ≤ t) × (t ≤ i.deadline)
-    by (inl e) = let w : Valid i = (valid_above hi i [] all).1 in (omega arith, omega arith)
-    by (inr (low, a)) = (multiple_pos i t (down_to hi i) all a, low)
+point_bounds hi i t all m = grind (arith, points_are, valid_above, multiple_pos)

@@ -17,24 +17,18 @@ pub jump : (f : ℕ) (hi : List Task) (i : Task) (t : ℕ) → All Valid (down_t
     next_point (down_to hi i) i.deadline t < demand f (down_to hi i) (next_point (down_to hi i) i.deadline t) →
     NoneBelow f hi i (demand f (down_to hi i) (next_point (down_to hi i) i.deadline t))
 jump f hi i t all none over q m h =
-    let p = next_point (down_to hi i) i.deadline t in
-    ⊎_elim (λ low. none q m low) (λ high. omega (arith, demand_mono f (down_to hi i) p q all (next_first hi i t q all m high))) (cases_lt q t)
+    grind (arith, demand_mono f (down_to hi i) (next_point (down_to hi i) i.deadline t) q, next_first hi i t q)
 
 -- Where the demand fits at the next point, that is the answer.
 pub found : (f : ℕ) (hi : List Task) (i : Task) (t : ℕ) → All Valid (down_to hi i) → 1 ≤ t → NoneBelow f hi i t →
     demand f (down_to hi i) (next_point (down_to hi i) i.deadline t) ≤ next_point (down_to hi i) i.deadline t →
     answer f hi i ≡ Some (next_point (down_to hi i) i.deadline t, demand f (down_to hi i) (next_point (down_to hi i) i.deadline t))
 found f hi i t all ht none fit =
-    let p = next_point (down_to hi i) i.deadline t in
-    some_answer f hi i p (record {
-      point = next_is_point hi i t all ht;
-      fit = fit;
-      first = λ q m h. ⊎_elim (λ low. absurd (omega (arith, none q m low))) (λ high. next_first hi i t q all m high) (cases_lt q t);
-    })
+    some_answer f hi i (next_point (down_to hi i) i.deadline t) (grind (arith, next_is_point, next_first))
 
 -- Where the search is past the deadline, there is no answer.
 pub exhausted : (f : ℕ) (hi : List Task) (i : Task) (t : ℕ) → All Valid (down_to hi i) → NoneBelow f hi i t → i.deadline < t → answer f hi i ≡ None
-exhausted f hi i t all none past = no_answer f hi i (λ q m. none q m (omega (arith, point_bounds hi i q all m)))
+exhausted f hi i t all none past = grind (arith, no_answer, point_bounds)
 
 -- The search of a row may begin where the row above it ended, and the cost of its own job after that.
 pub from_above : (f : ℕ) (hi : List Task) (j i : Task) (p d : ℕ) → 1 ≤ f → All Valid (down_to (down_to hi j) i) → answer f hi j ≡ Some (p, d) →

@@ -1,6 +1,5 @@
 -- The points suffice: from any time at which the demand fits, it fits at the next point too.
 use Rattle.std.proofs.Common.{◌≡◌, ℕ, ◌≤◌, true, List, is_some, refl, arith}
-use Rattle.std.proofs.lemmas.Bool.{false≢true}
 use Rattle.theory.specs.Lists.{All}
 use Rattle.theory.specs.Tasks.{Task, Valid, demand}
 use Rattle.theory.specs.Test.{down_to, passes}
@@ -14,8 +13,7 @@ use Rattle.theory.proofs.Points.{point_bounds}
 -- Where the demand fits at t, it fits at the next point.
 pub fits_next : (f : ℕ) (hi : List Task) (i : Task) (t : ℕ) → All Valid (down_to hi i) → t ≤ i.deadline → demand f (down_to hi i) t ≤ t →
     demand f (down_to hi i) (next_point (down_to hi i) i.deadline t) ≤ next_point (down_to hi i) i.deadline t
-fits_next f hi i t all low h =
-    omega (arith, next_asks_no_more f (down_to hi i) i.deadline t (next_point (down_to hi i) i.deadline t) all (omega arith), next_from hi i t all low)
+fits_next f hi i t all low h = grind (arith, next_asks_no_more, next_from)
 
 -- A row passes at one of its points just when its demand fits at any time up to its deadline.
 pub points_suffice : PointsSuffice
@@ -27,8 +25,7 @@ points_suffice f hi i hf v w = (to, from)
     to : passes f hi i ≡ true → FitsInTime f hi i
     to =
         by_answer f hi i (λ o. is_some o ≡ true → FitsInTime f hi i)
-        (λ p s _. let b = point_bounds hi i p all s.point in (p, b.0, b.1, s.fit))
-        (λ _ e. absurd (false≢true e))
+        (λ p s _. let b = point_bounds hi i p all s.point in (p, b.0, b.1, s.fit)) (grind arith)
 
     from : FitsInTime f hi i → passes f hi i ≡ true
     from (t, ht, low, h) =

@@ -1,7 +1,7 @@
 -- The answers of a table, place by place.
-use Rattle.std.proofs.Common.{◌≡◌, ℕ, zero, suc, ◌+◌, ◌<◌, cond, List, [], ◌∷◌, ◌++◌, length, get_or, take, is_some, Some, None, Option, sym, refl, ap, ◌∙◌, ap₂, append_assoc, append-nil, arith}
+use Rattle.std.proofs.Common.{◌≡◌, ℕ, zero, suc, ◌+◌, ◌<◌, List, [], ◌∷◌, ◌++◌, length, get_or, take, Some, None, refl, ap, ◌∙◌, append_assoc, append-nil, arith, rules}
 use Rattle.theory.specs.Tasks.{Task, no_task}
-use Rattle.theory.specs.Test.{down_to, answer, joined, answers, passing, first_failing}
+use Rattle.theory.specs.Test.{down_to, answer, answers, passing, first_failing}
 
 -- Each of the first n rows of the table has the answer found for it.
 abbrev pub Answered : ℕ → List Task → ℕ → List (ℕ × ℕ) → Type 0
@@ -13,7 +13,7 @@ Under f hi lo n g = (k : ℕ) → k < n → answer f (hi ++ take k lo) (get_or l
 
 -- A row has the same answer under hi as under hi and no rows more.
 answer_first : (f : ℕ) (hi : List Task) (i : Task) → answer f hi i ≡ answer f (hi ++ []) i
-answer_first f hi i = ap (λ (l : List Task). answer f l i) (sym (append-nil hi))
+answer_first f hi i = grind (arith, append-nil)
 
 -- A row has the same answer under hi with i, and then the rows of mid, as under hi, and then i and the rows of mid.
 answer_next : (f : ℕ) (hi : List Task) (i : Task) (mid : List Task) (r : Task) → answer f (down_to hi i ++ mid) r ≡ answer f (hi ++ (i ∷ mid)) r
@@ -22,7 +22,7 @@ answer_next f hi i mid r = ap (λ (l : List Task). answer f l r) (append_assoc h
 -- The rows after the first have their answers under hi and the first.
 under_next : (f : ℕ) (hi : List Task) (i : Task) (lo : List Task) (n : ℕ) (g : ℕ → ℕ × ℕ) → Under f hi (i ∷ lo) (suc n) g →
     Under f (down_to hi i) lo n (λ k. g (suc k))
-under_next f hi i lo n g h k lt = answer_next f hi i (take k lo) (get_or lo k no_task) ∙ h (suc k) (omega arith)
+under_next f hi i lo n g h k lt = grind (arith, answer_next)
 
 -- Where each row under hi has its answer, the answers are those.
 all_under : (f : ℕ) (hi lo : List Task) (found : List (ℕ × ℕ)) → Under f hi lo (length lo) (λ k. get_or found k (0, 0)) → length found ≡ length lo →
@@ -31,8 +31,8 @@ all_under f hi [] [] h e = refl
 all_under f hi [] (a ∷ found) h e = absurd (omega arith)
 all_under f hi (i ∷ lo) [] h e = absurd (omega arith)
 all_under f hi (i ∷ lo) (a ∷ found) h e =
-    ap₂ joined (answer_first f hi i ∙ h 0 (omega arith))
-    (all_under f (down_to hi i) lo found (under_next f hi i lo (length lo) (λ k. get_or (a ∷ found) k (0, 0)) h) (omega arith))
+    let first = h 0 (omega arith) in
+    grind (arith, answer_first, all_under f (down_to hi i) lo found, under_next f hi i lo (length lo) (λ k. get_or (a ∷ found) k (0, 0)) h)
 
 -- Where each row of a table has its answer, the answers are those.
 pub all_answered : (f : ℕ) (table : List Task) (found : List (ℕ × ℕ)) → Answered f table (length table) found → length found ≡ length table →
@@ -43,23 +43,15 @@ all_answered f table found h e = all_under f [] table found h e
 fails_under : (f : ℕ) (hi lo : List Task) (n : ℕ) (g : ℕ → ℕ × ℕ) → n < length lo → Under f hi lo n g →
     answer f (hi ++ take n lo) (get_or lo n no_task) ≡ None → (answers f hi lo ≡ None) × (passing f hi lo ≡ n)
 fails_under f hi [] n g lt h e = absurd (omega arith)
-fails_under f hi (i ∷ lo) zero g lt h e =
-    let here : answer f hi i ≡ None = answer_first f hi i ∙ e in (
-      ap (λ (o : Option (ℕ × ℕ)). joined o (answers f (down_to hi i) lo)) here,
-      ap (λ (o : Option (ℕ × ℕ)). cond (is_some o) (suc (passing f (down_to hi i) lo)) 0) here,
-    )
+fails_under f hi (i ∷ lo) zero g lt h e = search rules
 fails_under f hi (i ∷ lo) (suc n) g lt h e =
     let here : answer f hi i ≡ Some (g 0) = answer_first f hi i ∙ h 0 (omega arith) in
-    let rest = fails_under f (down_to hi i) lo n (λ k. g (suc k)) (omega arith) (under_next f hi i lo n g h)
-    (answer_next f hi i (take n lo) (get_or lo n no_task) ∙ e) in (
-      ap₂ joined here rest.0,
-      ap (λ (o : Option (ℕ × ℕ)). cond (is_some o) (suc (passing f (down_to hi i) lo)) 0) here ∙ ap suc rest.1,
-    )
+    let rest = fails_under f (down_to hi i) lo n (λ k. g (suc k)) (omega arith) (under_next f hi i lo n g h) (grind (arith, answer_next)) in
+    grind arith
 
 -- Where the rows before the place n have answers and the row there has none, there are no answers, and the row there is the
 -- first that does not pass.
 pub first_fails : (f : ℕ) (table : List Task) (n : ℕ) (found : List (ℕ × ℕ)) → n < length table → Answered f table n found →
     answer f (take n table) (get_or table n no_task) ≡ None → (answers f [] table ≡ None) × (first_failing f table ≡ n + 1)
 first_fails f table n found lt h e =
-    let both = fails_under f [] table n (λ k. get_or found k (0, 0)) lt h e in
-    (both.0, omega (arith, both.1))
+    let both = fails_under f [] table n (λ k. get_or found k (0, 0)) lt h e in grind arith

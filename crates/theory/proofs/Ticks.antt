@@ -1,26 +1,11 @@
 -- What a row owes up to a target: from tick to tick it fits before the target, so the row is not late.
-use Rattle.std.proofs.Common.{◌≡◌, ℕ, zero, suc, ◌+◌, ◌-◌, ◌*◌, ◌<◌, ◌≤◌, Bool, true, false, List, [], ◌∷◌, map, length, sym, refl, ap, ◌∙◌, subst, ⊎_elim, mul-le-mul_left, arith}
+use Rattle.std.proofs.Common.{◌≡◌, ℕ, zero, suc, ◌+◌, ◌-◌, ◌*◌, ◌<◌, ◌≤◌, Bool, List, [], ◌∷◌, map, ap, ⊎_elim, mul-le-mul_left, arith}
 use Rattle.std.proofs.lemmas.Bool.{cases_lt}
 use Rattle.theory.specs.Lists.{All}
 use Rattle.theory.specs.Tasks.{Valid, cdiv, cost}
 use Rattle.theory.specs.Ticks.{Row, released, given, serve, tick, Late, Starts, tasks}
-use Rattle.theory.proofs.Cdiv.{cdiv_mono, cdiv_none, cdiv_pos, cdiv_less}
-use Rattle.theory.proofs.Places.{
-  sum_to,
-  At,
-  at_imp,
-  at_map,
-  at_unmap,
-  at_both,
-  all_map,
-  by_release,
-  by_serve,
-  all_serve,
-  at_serve,
-  tasks_tick,
-  asks,
-  PassAt,
-}
+use Rattle.theory.proofs.Cdiv.{cdiv_mono, cdiv_none, cdiv_less}
+use Rattle.theory.proofs.Places.{sum_to, At, at_imp, at_map, at_unmap, at_both, all_map, by_release, all_serve, at_serve, tasks_serve, tasks_release, asks, PassAt}
 
 -- The ticks that a row's unfinished job still takes.
 abbrev pub left : ℕ → Row → ℕ
@@ -53,12 +38,9 @@ pub owed_released : (f n e : ℕ) (r : Row) → 1 ≤ f → n < e → Valid r.ta
 owed_released f n e r hf h v =
     by_release n r (λ x. owed f e x ≤ owed f e r)
     (λ q.
-    let T = r.task.period in
-    let C = cost f r.task in
-    let same : e - (n + T) ≡ e - r.next - T = omega arith in
-    let less : cdiv (e - (n + T)) T + 1 ≡ cdiv (e - r.next) T =
-    ap (λ (x : ℕ). cdiv x T + 1) same ∙ cdiv_less (e - r.next) T (omega arith) (omega arith) in
-    omega (arith, ap (λ (x : ℕ). C * x) less))
+    let same : e - (n + r.task.period) ≡ e - r.next - r.task.period = omega arith in
+    let less : cdiv (e - (n + r.task.period)) r.task.period + 1 ≡ cdiv (e - r.next) r.task.period = grind (arith, cdiv_less) in
+    omega (arith, ap (λ (x : ℕ). cost f r.task * x) less))
     (λ _. omega arith)
 
 -- The releases at n add nothing to what is owed by the first rows.
@@ -70,41 +52,27 @@ owed_release f n e (suc i) (r ∷ s) hf h g =
 
 -- A tick given to a job takes at least one tick of what is left.
 pub left_given : (f : ℕ) (b : Bool) (r : Row) → 1 ≤ f → 0 < r.rem → cdiv (given f b r).rem f + 1 ≤ cdiv r.rem f
-left_given f true r hf h = omega (arith, cdiv_none f hf, cdiv_pos r.rem f hf h)
-left_given f false r hf h = omega (arith, cdiv_less r.rem f hf h)
+left_given f b r hf h = grind (arith, cdiv_less, cdiv_none)
 
 -- Where something is left after the service, it took at least one tick of what was owed.
 pub owed_serve : (f e : ℕ) (b : Bool) (i : ℕ) (s : List Row) → 1 ≤ f → 0 < sum_to (left f) i (serve f b s) → sum_to (owed f e) i (serve f b s) + 1 ≤ sum_to (owed f e) i s
 owed_serve f e b zero s hf h = absurd (omega arith)
 owed_serve f e b (suc i) [] hf h = absurd (omega arith)
 owed_serve f e b (suc i) (r ∷ s) hf h =
-    (by_serve f b r s (λ l. 0 < sum_to (left f) (suc i) l → sum_to (owed f e) (suc i) l + 1 ≤ sum_to (owed f e) (suc i) (r ∷ s))
-    (λ q k. omega (arith, owed_serve f e b i s hf (omega (arith, ap (λ (x : ℕ). cdiv x f) q, cdiv_none f hf))))
-    (λ q k. omega (arith, left_given f b r hf q))) h
+    grind (arith, owed_serve f e b i s, cdiv_none f, left_given f b r)
+
+-- After the releases at n, the next ones are later.
+good_release : (n : ℕ) (s : List Row) → All (Good n) s → All (Good (suc n)) (map (released n) s)
+good_release n s g = all_map (released n) (Good n) (Good (suc n)) (λ r a. grind arith) s g
 
 -- After a tick, the next releases are still ahead.
 pub good_tick : (f : ℕ) (b : Bool) (n : ℕ) (s : List Row) → All (Good n) s → All (Good (suc n)) (tick f b n s)
-good_tick f b n s g =
-    all_serve f b (Good (suc n)) (λ r a. a) (map (released n) s)
-    (all_map (released n) (Good n) (Good (suc n))
-    (λ r a. by_release n r (Good (suc n)) (λ q. (a.0, omega arith)) (λ q. (a.0, omega arith))) s g)
-
--- A job that is unfinished after it was given units was unfinished before.
-pub still : (f : ℕ) (c : Bool) (r : Row) → 0 < (given f c r).rem → 0 < r.rem
-still f true r k = absurd (omega arith)
-still f false r k = omega arith
-
--- After a tick, the target is still in reach of the deadline.
-aims_tick : (f : ℕ) (b : Bool) (n e i : ℕ) (s : List Row) → At (Aims n e) i s → At (Aims (suc n) e) i (tick f b n s)
-aims_tick f b n e i s a =
-    at_imp (Aims n e) (Aims (suc n) e) (λ r h. (omega arith, h.1)) i (tick f b n s)
-    (at_serve f b (Aims n e) (λ r h. (h.0, λ k. h.1 (still f b r k))) i (map (released n) s)
-    (at_map (released n) (Aims n e) (Aims n e) (λ r h. by_release n r (Aims n e) (λ q. (h.0, λ _. h.0)) (λ q. h)) i s a))
+good_tick f b n s g = all_serve f b (Good (suc n)) (λ r a. a) (map (released n) s) (good_release n s g)
 
 -- Where nothing is left down to the place i, the row there has no unfinished job.
 nothing_left : (f i : ℕ) (s : List Row) → 1 ≤ f → sum_to (left f) (suc i) s ≡ 0 → At (λ r. r.rem ≡ 0) i s
 nothing_left f i [] hf z = tt
-nothing_left f zero (r ∷ s) hf z = ⊎_elim (λ h. absurd (omega (arith, cdiv_pos r.rem f hf h))) (λ h. omega arith) (cases_lt 0 r.rem)
+nothing_left f zero (r ∷ s) hf z = grind arith
 nothing_left f (suc i) (r ∷ s) hf z = nothing_left f i s hf (omega arith)
 
 -- Up to p ticks ahead, no more is owed than what is left and what is asked for in p ticks.
@@ -112,8 +80,7 @@ owed_anew : (f n p i : ℕ) (s : List Row) → All (Good n) s → sum_to (owed f
 owed_anew f n p zero s g = omega arith
 owed_anew f n p (suc i) [] g = omega arith
 owed_anew f n p (suc i) (r ∷ s) g =
-    let v : Valid r.task = g.0.0 in
-    let c : cdiv (n + p - r.next) r.task.period ≤ cdiv p r.task.period = cdiv_mono (n + p - r.next) p r.task.period (omega arith) (omega arith) in
+    let c : cdiv (n + p - r.next) r.task.period ≤ cdiv p r.task.period = grind (arith, cdiv_mono (n + p - r.next) p) in
     omega (arith, mul-le-mul_left (cost f r.task) c, owed_anew f n p i s g.1)
 
 -- Where nothing is left down to the place i, there is a target for the row there.
@@ -122,37 +89,46 @@ anew f n i s hf g (p, some, low, fits) z = (
   n + p,
   omega arith,
   omega (arith, owed_anew f n p (suc i) s g),
-  at_imp (λ r. (p ≤ r.task.deadline) × (r.rem ≡ 0)) (Aims n (n + p)) (λ r h. (omega arith, λ k. absurd (omega arith))) i s
+  at_imp (λ r. (p ≤ r.task.deadline) × (r.rem ≡ 0)) (Aims n (n + p)) (λ r h. grind arith) i s
       (at_both (λ r. p ≤ r.task.deadline) (λ r. r.rem ≡ 0) i s (at_unmap (λ r. r.task) (λ t. p ≤ t.deadline) i s low)
       (nothing_left f i s hf z)),
 )
 
--- A tick keeps the target, or leaves nothing, so that there is a new one.
-pub inv_tick : (f : ℕ) (b : Bool) (n i : ℕ) (s : List Row) → 1 ≤ f → All (Good n) s → PassAt f i (tasks s) → Inv f n i s → Inv f (suc n) i (tick f b n s)
-inv_tick f b n i s hf g pass (e, before, fits, aims) = ⊎_elim on idle (cases_lt 0 (sum_to (left f) (suc i) (tick f b n s)))
-  where
-    on : 0 < sum_to (left f) (suc i) (tick f b n s) → Inv f (suc n) i (tick f b n s)
-    on h =
-        let less = owed_serve f e b (suc i) (map (released n) s) hf h in
-        let moved = owed_release f n e (suc i) s hf before g in
-        (e, omega (arith, left_owed f e (suc i) (tick f b n s)), omega arith, aims_tick f b n e i s aims)
+-- The releases keep the target.
+inv_release : (f n i : ℕ) (s : List Row) → 1 ≤ f → All (Good n) s → Inv f n i s → Inv f n i (map (released n) s)
+inv_release f n i s hf g (e, before, fits, aims) =
+    (e, before, omega (arith, owed_release f n e (suc i) s hf before g), at_map (released n) (Aims n e) (Aims n e) (λ r h. grind arith) i s aims)
 
-    idle : sum_to (left f) (suc i) (tick f b n s) ≤ 0 → Inv f (suc n) i (tick f b n s)
-    idle h = anew f (suc n) i (tick f b n s) hf (good_tick f b n s g) (subst (PassAt f i) (sym (tasks_tick f b n s)) pass) (omega arith)
+-- A tick for the first unfinished job keeps the target, or leaves nothing, so that there is a new one.
+pub inv_serve : (f : ℕ) (b : Bool) (n i : ℕ) (s : List Row) → 1 ≤ f → All (Good (suc n)) s → PassAt f i (tasks s) → Inv f n i s → Inv f (suc n) i (serve f b s)
+inv_serve f b n i s hf g pass (e, before, fits, aims) = ⊎_elim on idle (cases_lt 0 (sum_to (left f) (suc i) (serve f b s)))
+  where
+    on : 0 < sum_to (left f) (suc i) (serve f b s) → Inv f (suc n) i (serve f b s)
+    on h =
+        let less = owed_serve f e b (suc i) s hf h in
+        let reach : At (Aims n e) i (serve f b s) = at_serve f b (Aims n e) (λ r a. grind arith) i s aims in (
+          e,
+          omega (arith, left_owed f e (suc i) (serve f b s)),
+          omega arith,
+          at_imp (Aims n e) (Aims (suc n) e) (λ r a. (omega arith, a.1)) i (serve f b s) reach,
+        )
+
+    idle : sum_to (left f) (suc i) (serve f b s) ≤ 0 → Inv f (suc n) i (serve f b s)
+    idle h = anew f (suc n) i (serve f b s) hf (all_serve f b (Good (suc n)) (λ r a. a) s g) (grind (arith, tasks_serve)) (omega arith)
+
+-- A tick, with its releases, keeps the target, or leaves nothing, so that there is a new one.
+pub inv_tick : (f : ℕ) (b : Bool) (n i : ℕ) (s : List Row) → 1 ≤ f → All (Good n) s → PassAt f i (tasks s) → Inv f n i s → Inv f (suc n) i (tick f b n s)
+inv_tick f b n i s hf g pass inv =
+    inv_serve f b n i (map (released n) s) hf (good_release n s g) (grind (arith, tasks_release)) (inv_release f n i s hf g inv)
 
 -- A row with a target ahead is not late.
 pub on_time : (f n i : ℕ) (s : List Row) → Inv f n i s → At (λ r. ¬ (Late n r)) i s
-on_time f n i s (e, before, fits, aims) = at_imp (Aims n e) (λ r. ¬ (Late n r)) (λ r a l. let h = a.1 l.0 in omega arith) i s aims
-
--- There are as many tasks as rows.
-pub length_tasks : (s : List Row) → length (tasks s) ≡ length s
-length_tasks [] = refl
-length_tasks (r ∷ s) = ap suc (length_tasks s)
+on_time f n i s (e, before, fits, aims) = at_imp (Aims n e) (λ r. ¬ (Late n r)) (λ r a l. grind arith) i s aims
 
 -- At a start, the rows are valid and their releases ahead.
 pub start_good : (n : ℕ) (s : List Row) → All Valid (tasks s) → All (Starts n) s → All (Good n) s
 start_good n [] v a = tt
-start_good n (r ∷ s) v a = ((v.0, a.0.1), start_good n s v.1 a.1)
+start_good n (r ∷ s) v a = grind (arith, start_good n s)
 
 -- The row is valid, and an unfinished job is due by its next release.
 abbrev pub Due : Row → Type 0
@@ -161,9 +137,4 @@ Due r = Valid r.task × (0 < r.rem → r.due ≤ r.next)
 -- At a start, no row has an unfinished job.
 pub start_due : (n : ℕ) (s : List Row) → All Valid (tasks s) → All (Starts n) s → All Due s
 start_due n [] v a = tt
-start_due n (r ∷ s) v a = ((v.0, λ h. absurd (omega (arith, a.0.0))), start_due n s v.1 a.1)
-
--- What follows from P and Q follows of every row where both hold.
-pub all_both : (P Q R : Row → Type 0) → ((r : Row) → P r → Q r → R r) → (s : List Row) → All P s → All Q s → All R s
-all_both P Q R h [] a b = tt
-all_both P Q R h (r ∷ s) a b = (h r a.0 b.0, all_both P Q R h s a.1 b.1)
+start_due n (r ∷ s) v a = grind (arith, start_due n s)

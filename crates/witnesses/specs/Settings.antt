@@ -1,6 +1,7 @@
 -- The tasks, the units and the runs of the witnesses.
-use Rattle.std.specs.Prelude.{ℕ, List, [], ◌∷◌}
+use Rattle.std.specs.Prelude.{◌≡◌, ℕ, List, [], ◌∷◌, Ok}
 use Rattle.theory.specs.Tasks.{Task}
+use Rattle.tasks.specs.Admission.{admission}
 use Rattle.tasks.specs.Tables.{numbers}
 use Rattle.units.specs.Divider.{divides}
 use Rattle.units.specs.Meaning.{Meaning, Nature}
@@ -12,6 +13,10 @@ use Rattle.witnesses.specs.Saying.{Setting}
 -- Three tasks, admitted at the middle one of three levels.
 abbrev pub three : Plan
 three = record { tasks = numbers 50 50 500 ∷ numbers 80 80 1000 ∷ numbers 100 100 2000 ∷ []; levels = 25 ∷ 50 ∷ 100 ∷ []; admitted = 50 }
+
+-- They are admitted at that level, where the rows have these smallest points and demands.
+abbrev pub ThreeAdmitted : Type 0
+ThreeAdmitted = admission three.levels three.tasks ≡ Ok (50, (50, 10) ∷ (50, 30) ∷ (80, 80) ∷ [])
 
 -- All of them are first released at tick n.
 abbrev pub all_at : ℕ → List ℕ

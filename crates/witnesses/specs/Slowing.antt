@@ -1,6 +1,5 @@
 -- A run of an admitted plan that is slowed, and later rests.
-use Rattle.std.specs.Prelude.{◌≡◌, ◌<◌, [], ◌∷◌, Ok}
-use Rattle.tasks.specs.Admission.{admission}
+use Rattle.std.specs.Prelude.{◌≡◌, ◌<◌}
 use Rattle.units.specs.Meaning.{off}
 use Rattle.machine.specs.declared.job.Pace.TheVariants.{Full, Slowed}
 use Rattle.machine.specs.declared.word.Reply.TheVariants.{Stands}
@@ -8,7 +7,7 @@ use Rattle.machine.specs.declared.word.Word.TheVariants.{GoOn, Ended}
 use Rattle.machine.specs.Plans.{Planned}
 use Rattle.machine.specs.Reached.{Began}
 use Rattle.witnesses.specs.Saying.{Course, from_begin, say, say_times, IsReached, where_it_stands}
-use Rattle.witnesses.specs.Settings.{three, all_at, hundred, on_divider}
+use Rattle.witnesses.specs.Settings.{three, ThreeAdmitted, all_at, hundred, on_divider}
 
 -- The three tasks begin on the divider.
 abbrev pub at_begin : Course
@@ -26,7 +25,7 @@ at_180 = say on_divider Ended (say_times on_divider GoOn 19 at_160)
 -- alone and the unit is slowed for it, below the admitted level. At the second, no job is left up to the release at tick
 -- 200, and the unit rests. `Slowed` counts rows from 0.
 pub record SlowsAndRests : Type 0 where
-  pub admitted : admission three.levels three.tasks ≡ Ok (50, (50, 10) ∷ (50, 30) ∷ (80, 80) ∷ [])
+  pub admitted : ThreeAdmitted
   pub planned : Planned three
   pub begins : Began hundred three (all_at 0) off at_begin.now
   pub reached_160 : IsReached on_divider at_160

@@ -11,57 +11,41 @@ ghost use Rattle.witnesses.specs.Waking.{LagsAndWakes};
 ghost use Rattle.witnesses.specs.Words.{WordsRefused};
 
 // A run of an admitted plan is slowed at one moment and rests at another, and both are reached from an accepted begin.
-pub fn a_run_slows_and_rests() -> u8
+pub fn a_run_slows_and_rests()
     ensures { SlowsAndRests }
-{
-    0
-}
+{}
 
 // A run on a ramp lags at begin, when it is raised again and when it wakes, and works in time for the next release.
-pub fn a_ramp_lags_and_wakes() -> u8
+pub fn a_ramp_lags_and_wakes()
     ensures { LagsAndWakes }
-{
-    0
-}
+{}
 
 // Two jobs are unfinished at a moment that is reached.
-pub fn two_jobs_wait() -> u8
+pub fn two_jobs_wait()
     ensures { TwoUnfinished }
-{
-    0
-}
+{}
 
 // A table is refused, and the plain run has a late job at each of its levels.
-pub fn a_table_is_refused() -> u8
+pub fn a_table_is_refused()
     ensures { TableRefused }
-{
-    0
-}
+{}
 
 // A table is admitted, and at a lower listed level the plain run has a late job.
-pub fn a_lower_level_is_late() -> u8
+pub fn a_lower_level_is_late()
     ensures { LowerLevelLate }
-{
-    0
-}
+{}
 
 // A job is late on a unit outside its allowance, and in a plan that is not admitted.
-pub fn lateness_can_hold() -> u8
+pub fn lateness_can_hold()
     ensures { LatenessHolds }
-{
-    0
-}
+{}
 
 // A begin is refused by each of its refusals.
-pub fn a_begin_is_refused() -> u8
+pub fn a_begin_is_refused()
     ensures { BeginsRefused }
-{
-    0
-}
+{}
 
 // A word is refused by each of its refusals.
-pub fn a_word_is_refused() -> u8
+pub fn a_word_is_refused()
     ensures { WordsRefused }
-{
-    0
-}
+{}

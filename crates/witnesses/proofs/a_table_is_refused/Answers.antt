@@ -1,4 +1,4 @@
-use Rattle.std.proofs.Common.{◌≡◌, ℕ, refl, subst, inl, inr, arith, lit<, lit≤}
+use Rattle.std.proofs.Common.{ℕ, refl, subst, inl, inr, arith, lit<, lit≤}
 use Rattle.theory.specs.Lists.{Any, In}
 use Rattle.theory.specs.Ticks.{Late, plain, PlainRunLate}
 use Rattle.tasks.specs.Admission.{SomeEmpty}
@@ -18,8 +18,7 @@ each_late g (inr (inl e)) = subst (λ (f : ℕ). PlainRunLate f crowded) e (3, a
 each_late g (inr (inr none)) = absurd none
 
 some : ¬ (SomeEmpty too_low crowded)
-some (inl e) = let z : ◌≡◌ {A = ℕ} 0 1 = cc in omega arith
-some (inr e) = let z : ◌≡◌ {A = ℕ} 0 1 = cc in omega arith
+some e = grind arith
 
 pub returns : goal.returns
 returns c = record { refused = refl; late_at_5 = at_5; late_at_10 = at_10; late = (some, each_late) }

@@ -1,4 +1,4 @@
-use Rattle.std.proofs.Common.{◌≡◌, ℕ, true, false, [], ◌∷◌, refl, arith, lit<, lit≤}
+use Rattle.std.proofs.Common.{◌≡◌, true, false, [], ◌∷◌, refl, arith, lit<, lit≤}
 use Rattle.theory.specs.Tasks.{Task}
 use Rattle.theory.proofs.Suffice.{points_suffice}
 use Rattle.tasks.specs.Tables.{numbers}
@@ -18,7 +18,7 @@ not_planned p =
     let row : Task = numbers 3 3 15 in
     let valid = crowded_valid.0 in
     let pass : false ≡ true = (points_suffice 10 (row ∷ []) row (lit≤ tt) (valid, tt) valid).1 (p.fits (row ∷ []) row [] refl) in
-    let z : ◌≡◌ {A = ℕ} 0 1 = cc in omega arith
+    grind arith
 
 pub returns : goal.returns
 returns c = record {
