@@ -1,9 +1,11 @@
 // A speed unit. Its callers know it only by its meaning.
-ghost use Rattle.std.specs.Prelude.{◌≡◌, ℕ, ◌≤◌, true, OnErr};
+ghost use Rattle.std.specs.Prelude.{◌≡◌, ℕ, ◌≤◌, true, OnErr, Some};
 ghost use Rattle.units.specs.Calls.{CallsAreFunctions};
 ghost use Rattle.units.specs.Meaning.{Meaning, Nature, Asked, Rested, Ticked, works, off as nothing};
+ghost use Rattle.units.specs.Printed.{standing_items};
 
 use fault::Fault;
+use std::fmt;
 
 // Where a unit stands: the level asked for, 0 when off; the ticks until it works; the ticks still asleep.
 #[derive(Clone, Copy, PartialEq, Eq, Debug)]
@@ -91,4 +93,14 @@ pub fn calls_are_functions() -> u8
     ensures { CallsAreFunctions }
 {
     0
+}
+
+// ASKED LAG REST
+impl fmt::Display for Standing {
+    ghost output = { λ s. Some (standing_items s) };
+
+    fn fmt<W: fmt::Write>(&self, f: &mut fmt::Formatter<W>) -> fmt::Result {
+        let Standing { asked, lag, rest } = *self;
+        write!(f, "{asked} {lag} {rest}")
+    }
 }
