@@ -11,14 +11,17 @@ module _ (n : ℕ) (words : List Word) (text : List ℕ) {all : Result (List Wor
   by h = sym (ap (λ l. words_from n words l.ended l.left) h) ∙ is
 
   module _ {line : List ℕ} {more : Lines} (h : lines_of text ≡ record { ended = line ∷ more.ended; left = more.left }) {number : ℕ} (here : number ≡ n) where
+    -- What the text says, by its first line and what comes after.
+    first : {r : Result (List Word) Unread} → with_line number words line ≡ r → and_then r (λ so_far. words_from (n + 1) so_far more.ended more.left) ≡ all
+    first e = let w = by h in cc
+
     -- A line that is read leaves the others.
     pub line_read : {next : ℕ} {read : List Word} → next ≡ n + 1 → with_line number words line ≡ Ok read → words_from next read more.ended more.left ≡ all
-    line_read {next} {read} after ok = ap (λ k. words_from k read more.ended more.left) after ∙ sym (ap (λ r. and_then r (λ so_far. words_from (n + 1) so_far more.ended more.left)) (ap (λ k. with_line k words line) (sym here) ∙ ok)) ∙ by h
+    line_read after ok = let w = first ok in cc
 
     -- The error of a line is that of the whole text.
     pub line_wrong : {e : Unread} → UnreadFor (with_line number words line) e → UnreadFor all e
-    line_wrong err =
-        ⊎_elim (λ none. inl none) (λ e. inr (sym (by h) ∙ ap (λ r. and_then r (λ so_far. words_from (n + 1) so_far more.ended more.left)) (ap (λ k. with_line k words line) (sym here) ∙ e))) err
+    line_wrong err = ⊎_elim (λ none. inl none) (λ e. inr (sym (first e))) err
 
   -- Bytes that no byte 10 ends are wrong.
   pub left_wrong : lines_of text ≡ record { ended = []; left = text } → 0 < length text → all ≡ Err (BadLine n)

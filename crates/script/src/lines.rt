@@ -27,9 +27,6 @@ pub(crate) fn line_said(line: &[u8]) -> Option<Said>
         return Some(Said { word, times: 1 });
     };
     let word = word_named(name)?;
-    let times = number(count)?;
-    if times < 1 {
-        return None;
-    }
+    let times = number(count).filter(|n| *n >= 1)?;
     Some(Said { word, times })
 }

@@ -1,4 +1,4 @@
-use Rattle.std.proofs.Common.{◌≡◌, ◌+◌, None, eqb, ap, rules, arith}
+use Rattle.std.proofs.Common.{◌≡◌, ◌+◌, None, ◌==◌, ap, rules, arith}
 use Rattle.std.proofs.lemmas.Bool.Decides.{Decides-eqb}
 use Rattle.std.proofs.lemmas.List.Sorted.{answers_always}
 use Rattle.std.proofs.lemmas.Option.{MatchOption-at_some, MatchOption-at_none}
@@ -12,7 +12,7 @@ use Rattle.script.proofs.words.read_words.Goals as goal
 pub returns-in_err-line : goal.returns-in_err-line
 returns-in_err-line c =
     let s = c.in-Some.ensures.steps in
-    let first = (s.0.1.2 (λ b. eqb b 10) (answers_always _ _ _ (λ f a r g h. search rules))).1 in
+    let first = (s.0.1.2 (λ b. b == 10) (answers_always _ _ _ (λ f a r g h. search rules))).1 in
     let value = c.in_err-line.ensures.value in
     let none : c.strip_suffix.result ≡ None = grind (arith, value) in
     let other = MatchOption-at_none _ _ none (strip_suffix_is Decides-eqb _ _ _ c.strip_suffix.ensures.cases) in
@@ -22,7 +22,7 @@ returns-in_err-line c =
 pub loop-i-preserved : goal.loop-i-preserved
 loop-i-preserved c =
     let s = c.in-Some.ensures.steps in
-    let first = (s.0.1.2 (λ b. eqb b 10) (answers_always _ _ _ (λ f a r g h. search rules))).1 in
+    let first = (s.0.1.2 (λ b. b == 10) (answers_always _ _ _ (λ f a r g h. search rules))).1 in
     let ended = MatchOption-at_some _ _ _ c.in_ok-line.ensures.ok_part (strip_suffix_is Decides-eqb _ _ _ c.strip_suffix.ensures.cases) in
     let text = split_inclusive_rest (enumerate_source c.loop-i.i-iterator) in
     let line = line_ended _ _ _ s.0.0 s.0.1.1 first _ ended in
@@ -34,7 +34,7 @@ loop-i-preserved c =
 pub returns-in_err-add_line : goal.returns-in_err-add_line
 returns-in_err-add_line c =
     let s = c.in-Some.ensures.steps in
-    let first = (s.0.1.2 (λ b. eqb b 10) (answers_always _ _ _ (λ f a r g h. search rules))).1 in
+    let first = (s.0.1.2 (λ b. b == 10) (answers_always _ _ _ (λ f a r g h. search rules))).1 in
     let ended = MatchOption-at_some _ _ _ c.in_ok-line.ensures.ok_part (strip_suffix_is Decides-eqb _ _ _ c.strip_suffix.ensures.cases) in
     let text = split_inclusive_rest (enumerate_source c.loop-i.i-iterator) in
     let line = line_ended _ _ _ s.0.0 s.0.1.1 first _ ended in
