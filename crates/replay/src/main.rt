@@ -63,7 +63,7 @@ fn input_words(rt: &HostRuntime) -> anyhow::Result<Vec<Word>> {
     let bytes = first_bytes(heap, "standard input", rt.stdin(), WORD_BYTES as u64 + 1)?;
     ensure!(
         bytes.len() <= WORD_BYTES,
-        "standard input: more than 16777216 bytes"
+        "standard input: more than {WORD_BYTES} bytes"
     );
     Ok(read_words(heap, &bytes)?)
 }
