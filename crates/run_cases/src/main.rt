@@ -39,11 +39,14 @@ fn three_levels(list: LevelList) -> Result<Ramp, Fault> {
     Ok(Ramp::new(list)?)
 }
 
-// Adds a word some times, and then the question where the run stands.
-fn add_words(words: &mut Vec<Word>, word: Word, times: usize) -> Result<(), AllocError> {
-    words.extend(iter::repeat_n(word, times))?;
-    words.push(Word::Standing)?;
-    Ok(())
+// The words that are said, each some times, and after each the question where the run stands.
+fn words_of(heap: Global, said: &[(Word, usize)]) -> Result<Vec<Word>, AllocError> {
+    let mut words = Vec::new(heap);
+    for (word, times) in said {
+        words.extend(iter::repeat_n(*word, *times))?;
+        words.push(Word::Standing)?;
+    }
+    Ok(words)
 }
 
 // The text of a record: the level, where the run stood whenever that was asked, and the unit at the end.
@@ -88,10 +91,8 @@ fn show<U: SpeedUnit>(
 // On a divider that wakes at once: row 2 runs slowed at 160, and at 180 nothing is left until the next release.
 fn on_divider(rt: &HostRuntime) -> anyhow::Result<()> {
     let mut unit = Divider::new(100, 0).ok().context("the divider is refused")?;
-    let mut words = Vec::new(rt.alloc());
-    add_words(&mut words, Word::GoOn, 160)?;
-    add_words(&mut words, Word::GoOn, 19)?;
-    add_words(&mut words, Word::Ended, 1)?;
+    let said = [(Word::GoOn, 160), (Word::GoOn, 19), (Word::Ended, 1)];
+    let words = words_of(rt.alloc(), &said)?;
     show(rt, "divider", &[0, 0, 0], &mut unit, &words)
 }
 
@@ -100,11 +101,13 @@ fn on_ramp(rt: &HostRuntime, name: &str, starts: &[u32]) -> anyhow::Result<()> {
     let mut unit = three_levels(LevelList::new(rt.alloc())?)
         .ok()
         .context("the ramp is refused")?;
-    let mut words = Vec::new(rt.alloc());
-    add_words(&mut words, Word::GoOn, 0)?;
-    add_words(&mut words, Word::GoOn, 163)?;
-    add_words(&mut words, Word::GoOn, 2)?;
-    add_words(&mut words, Word::GoOn, 1)?;
+    let said = [
+        (Word::GoOn, 0),
+        (Word::GoOn, 163),
+        (Word::GoOn, 2),
+        (Word::GoOn, 1),
+    ];
+    let words = words_of(rt.alloc(), &said)?;
     show(rt, name, starts, &mut unit, &words)
 }
 
