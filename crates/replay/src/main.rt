@@ -89,16 +89,14 @@ fn print_record(rt: &HostRuntime, record: &Record) -> anyhow::Result<()> {
 fn play<U: SpeedUnit + Drop>(
     heap: Global,
     sheet: Sheet,
-    unit: U,
+    mut unit: U,
     words: &[Word],
 ) -> Result<Record, Stop> {
-    let mut unit = unit;
     Ok(operate(heap, sheet.table, &sheet.starts, &mut unit, words)?)
 }
 
 // The ramp of some levels.
-fn ramp_of(list: LevelList, levels: &[u32]) -> Result<Ramp, Fault> {
-    let mut list = list;
+fn ramp_of(mut list: LevelList, levels: &[u32]) -> Result<Ramp, Fault> {
     for level in levels {
         list.add(0, *level)?;
     }

@@ -19,8 +19,7 @@ use units::unit::SpeedUnit;
 const LEVELS: [u32; 3] = [25, 50, 100];
 
 // The table with the levels.
-fn three_rows(table: OpenTable) -> Result<OpenTable, Fault> {
-    let mut table = table;
+fn three_rows(mut table: OpenTable) -> Result<OpenTable, Fault> {
     for level in LEVELS {
         table.add_level(0, level)?;
     }
@@ -31,8 +30,7 @@ fn three_rows(table: OpenTable) -> Result<OpenTable, Fault> {
 }
 
 // A ramp of the same levels.
-fn three_levels(list: LevelList) -> Result<Ramp, Fault> {
-    let mut list = list;
+fn three_levels(mut list: LevelList) -> Result<Ramp, Fault> {
     for level in LEVELS {
         list.add(0, level)?;
     }
