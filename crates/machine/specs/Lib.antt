@@ -6,3 +6,4 @@ pub mod Begin
 pub mod History
 pub mod Reached
 pub mod Promises
+pub mod Printed

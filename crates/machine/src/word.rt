@@ -1,5 +1,9 @@
 // What is said to a run, and what it replies.
+ghost use Rattle.std.specs.Prelude.{Some};
+ghost use Rattle.machine.specs.Printed.{outcome_text, report_items, run_standing_items, reply_items};
+
 use fault::Fault;
+use std::fmt;
 use units::unit::Standing;
 
 // That the active job goes on through this tick; that it ended in it; and the question where the run stands.
@@ -48,4 +52,60 @@ pub enum Reply {
 pub struct Event {
     pub word: Word,
     pub reply: Reply,
+}
+
+// `going`, `ended` or `spent`
+impl fmt::Display for Outcome {
+    ghost output = { λ o. Some (outcome_text o) };
+
+    fn fmt<W: fmt::Write>(&self, f: &mut fmt::Formatter<W>) -> fmt::Result {
+        f.write_str(match self {
+            Outcome::Going => "going",
+            Outcome::Ended => "ended",
+            Outcome::Spent => "spent",
+        })
+    }
+}
+
+// ROW LEVEL UNITS OUTCOME
+impl fmt::Display for Report {
+    ghost output = { λ r. Some (report_items r) };
+
+    fn fmt<W: fmt::Write>(&self, f: &mut fmt::Formatter<W>) -> fmt::Result {
+        let Report {
+            row,
+            level,
+            units,
+            outcome,
+        } = *self;
+        write!(f, "{row} {level} {units} {outcome}")
+    }
+}
+
+// COUNT ROW GIVEN ASKED LAG REST
+impl fmt::Display for RunStanding {
+    ghost output = { λ s. Some (run_standing_items s) };
+
+    fn fmt<W: fmt::Write>(&self, f: &mut fmt::Formatter<W>) -> fmt::Result {
+        let RunStanding {
+            count,
+            row,
+            given,
+            unit,
+        } = *self;
+        write!(f, "{count} {row} {given} {unit}")
+    }
+}
+
+// A tick, where the run stands, or a refusal.
+impl fmt::Display for Reply {
+    ghost output = { λ r. Some (reply_items r) };
+
+    fn fmt<W: fmt::Write>(&self, f: &mut fmt::Formatter<W>) -> fmt::Result {
+        match self {
+            Reply::Ran(report) => report.fmt(f),
+            Reply::Stands(standing) => standing.fmt(f),
+            Reply::Refused(fault) => fault.fmt(f),
+        }
+    }
 }

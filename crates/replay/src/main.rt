@@ -3,14 +3,16 @@
 #![tactic(auto)]
 
 mod order;
+mod stop;
 
 use crate::order::{UnitOrder, read_order};
-use anyhow::anyhow;
+use crate::stop::Stop;
+use anyhow::{anyhow, ensure};
 use fault::Fault;
 use machine::word::Word;
-use run::{Halt, Record, operate};
-use script::{Unread, add_level, add_reply, add_standing, read_words};
-use sheet::{BlankSheet, Sheet, refusal_line};
+use run::{Record, operate};
+use script::{add_level, add_reply, add_standing, read_words};
+use sheet::{BlankSheet, Sheet};
 use std::alloc::Global;
 use std::fs::File;
 use std::io;
@@ -30,8 +32,8 @@ const WORD_BYTES: usize = 16_777_216;
 const KEPT: usize = 8192;
 
 // The error of an input that is not read.
-fn not_read(heap: Global, what: &str, why: io::Error) -> anyhow::Result<Vec<u8>> {
-    Err(anyhow!(format!(in heap; "{what} is not read: {why}")?))
+fn not_read(what: &str, why: io::Error) -> anyhow::Error {
+    anyhow!("{what} is not read: {why}")
 }
 
 // The bytes of an input, or as many as are asked for.
@@ -42,44 +44,28 @@ fn first_bytes<R: Read + Drop>(
     most: u64,
 ) -> anyhow::Result<Vec<u8>> {
     let mut bytes = Vec::new(heap);
-    match input.take(most).read_to_end(&mut bytes) {
-        Ok(_) => Ok(bytes),
-        Err(why) => not_read(heap, what, why),
-    }
+    input
+        .take(most)
+        .read_to_end(&mut bytes)
+        .map_err(|why| not_read(what, why))?;
+    Ok(bytes)
 }
 
 // The bytes of a file, or so many that they are no sheet.
 fn sheet_bytes(rt: &HostRuntime, name: &str) -> anyhow::Result<Vec<u8>> {
-    let heap = rt.alloc();
-    match File::open(rt, name) {
-        Ok(file) => first_bytes(heap, name, file, SHEET_BYTES),
-        Err(why) => not_read(heap, name, why),
-    }
+    let file = File::open(rt, name).map_err(|why| not_read(name, why))?;
+    first_bytes(rt.alloc(), name, file, SHEET_BYTES)
 }
 
 // The words on standard input.
 fn input_words(rt: &HostRuntime) -> anyhow::Result<Vec<Word>> {
     let heap = rt.alloc();
     let bytes = first_bytes(heap, "standard input", rt.stdin(), WORD_BYTES as u64 + 1)?;
-    if bytes.len() > WORD_BYTES {
-        return Err(anyhow!("standard input: more than 16777216 bytes"));
-    }
-    match read_words(heap, &bytes) {
-        Ok(words) => Ok(words),
-        Err(Unread::BadLine(line)) => Err(anyhow!(format!(in heap;
-            "standard input, line {line}: not go-on, ended or standing, or these with a count"
-        )?)),
-        Err(Unread::TooMany(line)) => Err(anyhow!(format!(in heap;
-            "standard input, line {line}: more than 10000000 words"
-        )?)),
-        Err(Unread::NoMemory) => Err(anyhow!("no memory for the words")),
-    }
-}
-
-// Prints the line of a refusal.
-fn print_refusal(rt: &HostRuntime, fault: Fault) -> anyhow::Result<()> {
-    rt.print(refusal_line(rt.alloc(), fault)?)?;
-    Ok(())
+    ensure!(
+        bytes.len() <= WORD_BYTES,
+        "standard input: more than {WORD_BYTES} bytes"
+    );
+    Ok(read_words(heap, &bytes)?)
 }
 
 // Prints the level, the reply to each word, and where the unit stood at last.
@@ -101,43 +87,31 @@ fn print_record(rt: &HostRuntime, record: &Record) -> anyhow::Result<()> {
 
 // Runs the table of a sheet on a unit.
 fn play<U: SpeedUnit + Drop>(
-    rt: &HostRuntime,
+    heap: Global,
     sheet: Sheet,
-    unit: U,
+    mut unit: U,
     words: &[Word],
-) -> anyhow::Result<()> {
-    let mut unit = unit;
-    match operate(rt.alloc(), sheet.table, &sheet.starts, &mut unit, words) {
-        Ok(record) => print_record(rt, &record),
-        Err(Halt::NoMemory(_)) => Err(anyhow!("no memory for the run")),
-        Err(Halt::NotAdmitted(back)) => print_refusal(rt, back.fault),
-        Err(Halt::NotBegun(back)) => print_refusal(rt, back.fault),
-    }
+) -> Result<Record, Stop> {
+    Ok(operate(heap, sheet.table, &sheet.starts, &mut unit, words)?)
 }
 
 // The ramp of some levels.
-fn ramp_of(list: LevelList, levels: &[u32]) -> Result<Ramp, Fault> {
-    let mut list = list;
+fn ramp_of(mut list: LevelList, levels: &[u32]) -> Result<Ramp, Fault> {
     for level in levels {
         list.add(0, *level)?;
     }
-    match Ramp::new(list) {
-        Ok(ramp) => Ok(ramp),
-        Err(back) => Err(back.fault),
-    }
+    Ok(Ramp::new(list)?)
 }
 
 // Runs the table of a sheet on the unit that is ordered.
-fn play_on(rt: &HostRuntime, sheet: Sheet, order: UnitOrder, words: &[Word]) -> anyhow::Result<()> {
+fn play_on(heap: Global, bytes: &[u8], order: UnitOrder, words: &[Word]) -> Result<Record, Stop> {
+    let sheet = BlankSheet::new(heap)?.read(bytes)?;
     match order {
-        UnitOrder::Divider { rate, wake } => match Divider::new(rate, wake) {
-            Ok(divider) => play(rt, sheet, divider, words),
-            Err(fault) => print_refusal(rt, fault),
-        },
-        UnitOrder::Ramp(levels) => match ramp_of(LevelList::new(rt.alloc())?, &levels) {
-            Ok(ramp) => play(rt, sheet, ramp, words),
-            Err(fault) => print_refusal(rt, fault),
-        },
+        UnitOrder::Divider { rate, wake } => play(heap, sheet, Divider::new(rate, wake)?, words),
+        UnitOrder::Ramp(levels) => {
+            let ramp = ramp_of(LevelList::new(heap)?, &levels)?;
+            play(heap, sheet, ramp, words)
+        }
     }
 }
 
@@ -145,9 +119,10 @@ fn run(rt: &HostRuntime) -> anyhow::Result<()> {
     let order = read_order(rt)?;
     let bytes = sheet_bytes(rt, order.sheet.as_str())?;
     let words = input_words(rt)?;
-    match BlankSheet::new(rt.alloc())?.read(&bytes) {
-        Ok(sheet) => play_on(rt, sheet, order.unit, &words),
-        Err(fault) => print_refusal(rt, fault),
+    match play_on(rt.alloc(), &bytes, order.unit, &words) {
+        Ok(record) => print_record(rt, &record),
+        Err(Stop::Refused(fault)) => Ok(rt.println(fault)?),
+        Err(Stop::Failed(why)) => Err(why),
     }
 }
 

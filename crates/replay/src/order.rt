@@ -1,5 +1,5 @@
 // What the arguments ask for.
-use anyhow::anyhow;
+use anyhow::{Context, anyhow};
 use sheet::number;
 use std::env;
 
@@ -21,42 +21,31 @@ const USAGE: &str = "usage: replay SHEET divider RATE WAKE | replay SHEET ramp L
 
 // Reads the arguments: SHEET divider RATE WAKE, or SHEET ramp LEVEL LEVEL ..
 pub(crate) fn read_order(rt: &HostRuntime) -> anyhow::Result<Order> {
-    let heap = rt.alloc();
-    let Ok(all) = env::args(rt) else {
-        return Err(anyhow!("the arguments are not UTF-8 text, or there is no memory for them"));
-    };
+    let all = env::args(rt).ok().context(
+        "the arguments are not UTF-8 text, or there is no memory for them",
+    )?;
     let mut args = all.skip(1);
-    let Some(sheet) = args.next() else {
-        return Err(anyhow!(USAGE));
-    };
-    let Some(kind) = args.next() else {
-        return Err(anyhow!(USAGE));
-    };
-    let mut numbers = Vec::new(heap);
-    let mut place = 3u64;
-    for text in args {
-        let Some(n) = number(text.as_str().as_bytes()) else {
-            return Err(anyhow!(format!(in heap;
-                "argument {place} is not a number up to 999999999: {text}"
-            )?));
-        };
+    let sheet = args.next().context(USAGE)?;
+    let kind = args.next().context(USAGE)?;
+    let mut numbers = Vec::new(rt.alloc());
+    for (place, text) in (3u64..).zip(args) {
+        let n = number(text.as_str().as_bytes()).context(format_args!(
+            "argument {place} is not a number up to 999999999: {text}"
+        ))?;
         numbers.push(n)?;
-        place = place.wrapping_add(1);
     }
     let unit = match kind.as_str() {
         "divider" => {
-            if numbers.len() != 2 {
+            let [rate, wake] = numbers.as_slice() else {
                 return Err(anyhow!(USAGE));
-            }
+            };
             UnitOrder::Divider {
-                rate: numbers[0],
-                wake: numbers[1],
+                rate: *rate,
+                wake: *wake,
             }
         }
         "ramp" => UnitOrder::Ramp(numbers),
-        _ => return Err(anyhow!(format!(in heap;
-            "argument 2 is neither divider nor ramp: {kind}"
-        )?)),
+        _ => return Err(anyhow!("argument 2 is neither divider nor ramp: {kind}")),
     };
     Ok(Order { sheet, unit })
 }

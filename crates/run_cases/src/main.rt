@@ -2,25 +2,27 @@
 // the moments of interest.
 #![tactic(auto)]
 
-use anyhow::anyhow;
+use anyhow::{Context, anyhow};
 use fault::Fault;
 use machine::word::{Event, Word};
 use run::{Halt, Record, operate};
 use script::{add_level, add_reply, add_standing};
-use sheet::refusal_line;
 use std::alloc::{AllocError, Global};
+use std::iter;
 use tasks::level_list::LevelList;
 use tasks::table::OpenTable;
 use units::divider::Divider;
 use units::ramp::Ramp;
 use units::unit::SpeedUnit;
 
-// The table with levels 25, 50 and 100, of which 50 is admitted.
-fn three_rows(table: OpenTable) -> Result<OpenTable, Fault> {
-    let mut table = table;
-    table.add_level(0, 25)?;
-    table.add_level(0, 50)?;
-    table.add_level(0, 100)?;
+// The levels, of which 50 is admitted.
+const LEVELS: [u32; 3] = [25, 50, 100];
+
+// The table with the levels.
+fn three_rows(mut table: OpenTable) -> Result<OpenTable, Fault> {
+    for level in LEVELS {
+        table.add_level(0, level)?;
+    }
     table.add_task(0, 50, 50, 500)?;
     table.add_task(0, 80, 80, 1000)?;
     table.add_task(0, 100, 100, 2000)?;
@@ -28,24 +30,21 @@ fn three_rows(table: OpenTable) -> Result<OpenTable, Fault> {
 }
 
 // A ramp of the same levels.
-fn three_levels(list: LevelList) -> Result<Ramp, Fault> {
-    let mut list = list;
-    list.add(0, 25)?;
-    list.add(0, 50)?;
-    list.add(0, 100)?;
-    match Ramp::new(list) {
-        Ok(ramp) => Ok(ramp),
-        Err(back) => Err(back.fault),
+fn three_levels(mut list: LevelList) -> Result<Ramp, Fault> {
+    for level in LEVELS {
+        list.add(0, level)?;
     }
+    Ok(Ramp::new(list)?)
 }
 
-// Adds a word some times, and then the question where the run stands.
-fn add_words(words: &mut Vec<Word>, word: Word, times: usize) -> Result<(), AllocError> {
-    for _ in 0..times {
-        words.push(word)?;
+// The words that are said, each some times, and after each the question where the run stands.
+fn words_of(heap: Global, said: &[(Word, usize)]) -> Result<Vec<Word>, AllocError> {
+    let mut words = Vec::new(heap);
+    for (word, times) in said {
+        words.extend(iter::repeat_n(*word, *times))?;
+        words.push(Word::Standing)?;
     }
-    words.push(Word::Standing)?;
-    Ok(())
+    Ok(words)
 }
 
 // The text of a record: the level, where the run stood whenever that was asked, and the unit at the end.
@@ -75,41 +74,38 @@ fn show<U: SpeedUnit>(
 ) -> anyhow::Result<()> {
     let heap = rt.alloc();
     println!(rt; "# {name}")?;
-    let text = match three_rows(OpenTable::new(heap)?) {
-        Ok(table) => match operate(heap, table, starts, unit, words) {
-            Ok(record) => record_text(heap, &record)?,
-            Err(Halt::NotAdmitted(back)) => refusal_line(heap, back.fault)?,
-            Err(Halt::NotBegun(back)) => refusal_line(heap, back.fault)?,
-            Err(Halt::NoMemory(_)) => return Err(anyhow!("no memory for the run")),
-        },
-        Err(fault) => refusal_line(heap, fault)?,
-    };
-    rt.print(text)?;
+    let table = three_rows(OpenTable::new(heap)?)
+        .ok()
+        .context("the table is refused")?;
+    match operate(heap, table, starts, unit, words) {
+        Ok(record) => rt.print(record_text(heap, &record)?)?,
+        Err(Halt::NotAdmitted(back)) => rt.println(back.fault)?,
+        Err(Halt::NotBegun(back)) => rt.println(back.fault)?,
+        Err(Halt::NoMemory(_)) => return Err(anyhow!("no memory for the run")),
+    }
     Ok(())
 }
 
 // On a divider that wakes at once: row 2 runs slowed at 160, and at 180 nothing is left until the next release.
 fn on_divider(rt: &HostRuntime) -> anyhow::Result<()> {
-    let Ok(mut unit) = Divider::new(100, 0) else {
-        return Err(anyhow!("the divider is refused"));
-    };
-    let mut words = Vec::new(rt.alloc());
-    add_words(&mut words, Word::GoOn, 160)?;
-    add_words(&mut words, Word::GoOn, 19)?;
-    add_words(&mut words, Word::Ended, 1)?;
+    let mut unit = Divider::new(100, 0).ok().context("the divider is refused")?;
+    let said = [(Word::GoOn, 160), (Word::GoOn, 19), (Word::Ended, 1)];
+    let words = words_of(rt.alloc(), &said)?;
     show(rt, "divider", &[0, 0, 0], &mut unit, &words)
 }
 
 // On a ramp, which may take three ticks to rise: it is slowed at 166, later than at 163, where the job that is slowed begins.
 fn on_ramp(rt: &HostRuntime, name: &str, starts: &[u32]) -> anyhow::Result<()> {
-    let Ok(mut unit) = three_levels(LevelList::new(rt.alloc())?) else {
-        return Err(anyhow!("the ramp is refused"));
-    };
-    let mut words = Vec::new(rt.alloc());
-    add_words(&mut words, Word::GoOn, 0)?;
-    add_words(&mut words, Word::GoOn, 163)?;
-    add_words(&mut words, Word::GoOn, 2)?;
-    add_words(&mut words, Word::GoOn, 1)?;
+    let mut unit = three_levels(LevelList::new(rt.alloc())?)
+        .ok()
+        .context("the ramp is refused")?;
+    let said = [
+        (Word::GoOn, 0),
+        (Word::GoOn, 163),
+        (Word::GoOn, 2),
+        (Word::GoOn, 1),
+    ];
+    let words = words_of(rt.alloc(), &said)?;
     show(rt, name, starts, &mut unit, &words)
 }
 

@@ -1,19 +1,13 @@
 -- The text of what a run replies, a line for each reply. One space, byte 32, stands between two items.
-use Rattle.std.specs.Prelude.{ℕ, List, [], ◌∷◌, ◌++◌, codes, decimal}
-use Rattle.machine.specs.declared.word.Outcome.{Outcome}
-use Rattle.machine.specs.declared.word.Outcome.TheVariants.{Going, Ended, Spent}
+use Rattle.std.specs.Prelude.{ℕ, List, [], ◌∷◌, ◌++◌, decimal}
+use Rattle.machine.specs.Printed.{report_items, run_standing_items}
 use Rattle.machine.specs.declared.word.Reply.{Reply}
 use Rattle.machine.specs.declared.word.Reply.TheVariants.{Ran, Stands, Refused}
 use Rattle.machine.specs.declared.word.Report.{Report}
 use Rattle.machine.specs.declared.word.RunStanding.{RunStanding}
 use Rattle.sheet.specs.Listing.{level_word, refusal_text}
+use Rattle.units.specs.Printed.{standing_items}
 use Rattle.units.specs.declared.unit.Standing.{Standing}
-
--- The text of each outcome.
-abbrev pub outcome_text : Outcome → List ℕ
-outcome_text Going = codes "going"
-outcome_text Ended = codes "ended"
-outcome_text Spent = codes "spent"
 
 -- `level` LEVEL
 abbrev pub level_text : ℕ → List ℕ
@@ -21,15 +15,15 @@ level_text level = level_word ++ (32 ∷ decimal level ++ (10 ∷ []))
 
 -- ROW LEVEL UNITS OUTCOME
 abbrev pub report_text : Report → List ℕ
-report_text r = decimal r.row ++ (32 ∷ decimal r.level ++ (32 ∷ decimal r.units ++ (32 ∷ outcome_text r.outcome ++ (10 ∷ []))))
+report_text r = report_items r ++ (10 ∷ [])
 
 -- ASKED LAG REST
 abbrev pub standing_text : Standing → List ℕ
-standing_text s = decimal s.asked ++ (32 ∷ decimal s.lag ++ (32 ∷ decimal s.rest ++ (10 ∷ [])))
+standing_text s = standing_items s ++ (10 ∷ [])
 
 -- COUNT ROW GIVEN ASKED LAG REST
 abbrev pub run_standing_text : RunStanding → List ℕ
-run_standing_text s = decimal s.count ++ (32 ∷ decimal s.row ++ (32 ∷ decimal s.given ++ (32 ∷ standing_text s.unit)))
+run_standing_text s = run_standing_items s ++ (10 ∷ [])
 
 -- The line of a reply.
 abbrev pub reply_text : Reply → List ℕ

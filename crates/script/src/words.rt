@@ -3,9 +3,9 @@ ghost use Rattle.std.specs.Prelude.{◌≡◌, ◌≤◌, Ok, vec_len, MatchResu
 ghost use Rattle.script.specs.Words.{with_line, words_of, UnreadFor};
 
 use crate::lines::line_said;
+use crate::said::Said;
 use crate::unread::Unread;
 use machine::word::Word;
-use sheet::cut;
 use std::alloc::Global;
 
 // The most words that are taken.
@@ -17,17 +17,12 @@ fn add_line(words: &mut Vec<Word>, number: usize, line: &[u8]) -> Result<(), Unr
     ensures few { OnOk result (vec_len words.new ≤ 10000000) }
     ensures words { MatchResult result (λ _. with_line number words.old.items line.now ≡ Ok words.new.items) (λ e. UnreadFor (with_line number words.old.items line.now) e) }
 {
-    let Some(said) = line_said(line) else {
-        return Err(Unread::BadLine(number));
-    };
-    let before = words.len();
-    let times = said.times as usize;
-    if times > MOST - before {
+    let Said { word, times } = line_said(line).ok_or(Unread::BadLine(number))?;
+    let count = words.len() + times as usize;
+    if count > MOST {
         return Err(Unread::TooMany(number));
     }
-    if words.resize(before + times, said.word).is_err() {
-        return Err(Unread::NoMemory);
-    }
+    words.resize(count, word)?;
     Ok(())
 }
 
@@ -36,15 +31,10 @@ pub fn read_words(heap: Global, bytes: &[u8]) -> Result<Vec<Word>, Unread>
     ensures { MatchResult result (λ v. words_of bytes.now ≡ Ok v.items) (λ e. UnreadFor (words_of bytes.now) e) }
 {
     let mut words = Vec::new(heap);
-    let mut text = bytes;
-    let mut done = 0usize;
-    while let Some((line, rest)) = cut(text, b'\n') {
-        add_line(&mut words, done + 1, line)?;
-        done += 1;
-        text = rest;
-    }
-    if !text.is_empty() {
-        return Err(Unread::BadLine(done + 1));
+    for (i, line) in bytes.split_inclusive(|b| *b == b'\n').enumerate() {
+        let number = i + 1;
+        let line = line.strip_suffix(b"\n").ok_or(Unread::BadLine(number))?;
+        add_line(&mut words, number, line)?;
     }
     Ok(words)
 }

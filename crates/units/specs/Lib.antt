@@ -6,3 +6,4 @@ pub mod States
 pub mod Ramp
 pub mod Dividing
 pub mod Ramping
+pub mod Printed

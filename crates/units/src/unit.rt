@@ -1,10 +1,12 @@
 // A speed unit. Its callers know it only by its meaning.
-ghost use Rattle.std.specs.Prelude.{◌≡◌, ℕ, ◌≤◌, true, OnErr};
+ghost use Rattle.std.specs.Prelude.{◌≡◌, ℕ, ◌≤◌, true, OnErr, Some};
 ghost use Rattle.units.specs.Calls.{CallsAreFunctions};
 ghost use Rattle.units.specs.Meaning.{Meaning, Nature, Asked, Rested, Ticked, ready, works, off as nothing};
+ghost use Rattle.units.specs.Printed.{standing_items};
 ghost use Rattle.units.specs.Standing.{standing_meaning};
 
 use fault::Fault;
+use std::fmt;
 
 // Where a unit stands: the level asked for, 0 when off; the ticks until it works; the ticks still asleep.
 #[derive(Clone, Copy, PartialEq, Eq, Default, Debug)]
@@ -34,6 +36,16 @@ impl Standing {
         ensures { result ≡ works (standing_meaning self) }
     {
         if self.is_ready() { self.asked } else { 0 }
+    }
+}
+
+// ASKED LAG REST
+impl fmt::Display for Standing {
+    ghost output = { λ s. Some (standing_items s) };
+
+    fn fmt<W: fmt::Write>(&self, f: &mut fmt::Formatter<W>) -> fmt::Result {
+        let Standing { asked, lag, rest } = *self;
+        write!(f, "{asked} {lag} {rest}")
     }
 }
 

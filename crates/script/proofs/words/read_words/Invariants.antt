@@ -1,11 +1,12 @@
-use Rattle.std.proofs.Common.{◌≡◌, ◌+◌, ◌≤◌, length, vec_items, vec_len}
+use Rattle.std.proofs.Common.{◌≡◌, ◌≤◌, ◌+◌, vec_len}
+use Rattle.std.specs.Iterator.Adapters.{enumerate_count, enumerate_source}
+use Rattle.std.specs.Slice.Iter.{split_inclusive_rest}
 use Rattle.script.specs.Words.{words_in, words_of}
 use Rattle.script.proofs.words.read_words.Given as goal
 
--- With the lines that are left, the words so far are those of the whole text; each line has a byte; and there are few words.
-abbrev pub invariant-loop-line : goal.invariant-loop-line
-invariant-loop-line l =
-    (words_in (l.done + 1) (vec_items l.words) l.text ≡ words_of l.initial.text) × (l.done + length l.text ≤ length l.initial.text) × (vec_len l.words ≤ 10000000)
-
-abbrev pub decreases-loop-line : goal.decreases-loop-line
-decreases-loop-line l = length l.text
+-- With the lines that are left, the words so far are those of the whole text; and there are few words.
+abbrev pub invariant-loop-i : goal.invariant-loop-i
+invariant-loop-i l = record {
+  all : words_in (enumerate_count l.i-iterator + 1) l.words.items (split_inclusive_rest (enumerate_source l.i-iterator)) ≡ words_of l.bytes;
+  few : vec_len l.words ≤ 10000000;
+}
