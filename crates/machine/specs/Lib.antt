@@ -5,4 +5,5 @@ pub mod Machine
 pub mod Begin
 pub mod History
 pub mod Reached
+pub mod Replies
 pub mod Promises
