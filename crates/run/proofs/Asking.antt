@@ -1,12 +1,12 @@
 -- What a run asks, by what it finds.
-use Rattle.std.proofs.Common.{◌≡◌, ℕ, ◌*◌, ◌<◌, ◌≤◌, true, leb, List, ◌∷◌, Some, None, Ok, Err, Option, Result, sym, ap, ◌∙◌, arith, MatchResult}
-use Rattle.std.proofs.lemmas.Bool.{and_parts, le-leb, lt-leb, cond-true, cond-false}
+use Rattle.std.proofs.Common.{◌≡◌, ℕ, true, None, Ok, Err, Option, Result, sym, ap, ◌∙◌, arith, MatchResult}
+use Rattle.std.proofs.lemmas.Bool.{and_parts}
 use Rattle.fault.specs.declared.Fault.{Fault}
 use Rattle.fault.specs.declared.Refusal.{Refusal}
 use Rattle.units.proofs.Calls.{ask_is}
 use Rattle.units.specs.Calls.{ask_with, ask_refusal, answer, unless}
 use Rattle.units.specs.Meaning.{Meaning, Nature, ready, Asked}
-use Rattle.machine.specs.Speed.{may_ask, enough_in}
+use Rattle.machine.specs.Speed.{may_ask}
 use Rattle.run.specs.Steps.{WithRaise}
 
 -- A level that may be asked for is not refused.
@@ -20,13 +20,6 @@ asks x level u r u' e a =
     let (lag, le, (is, left)) = (ask_is x level u r u').0 a in
     let none = taken x level u e in
     (is ∙ ap answer none, (lag, le, sym (left ∙ ap (λ (why : Option Refusal). unless why (ask_with lag level u) u) none)))
-
--- A level that is enough is the answer, and one that is not is passed over.
-pub enough_here : (w need g : ℕ) (gs : List ℕ) → need ≤ g * w → enough_in w need (g ∷ gs) ≡ Some g
-enough_here w need g gs h = cond-true (leb need (g * w)) (Some g) (enough_in w need gs) (le-leb need (g * w) h)
-
-pub enough_later : (w need g : ℕ) (gs : List ℕ) → g * w < need → enough_in w need (g ∷ gs) ≡ enough_in w need gs
-enough_later w need g gs h = cond-false (leb need (g * w)) (Some g) (enough_in w need gs) (lt-leb need (g * w) h)
 
 -- So it is not refused.
 pub asks_well : (x : Nature) (level : ℕ) (u : Meaning) (r : Result (Unit {0}) Fault) (u' : Meaning) → may_ask x level u ≡ true → Asked x level u r u' →

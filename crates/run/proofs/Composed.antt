@@ -15,20 +15,25 @@ use Rattle.machine.specs.Inner.{Inner, release_due, elect}
 use Rattle.machine.specs.Machine.{State, Now, Lags, Within, Result, settle, standing_of}
 use Rattle.machine.specs.Plans.{Plan}
 use Rattle.machine.specs.Reached.{Said}
-use Rattle.machine.specs.Speed.{Speed, ask_back, spared}
-use Rattle.run.specs.Steps.{WithRaise, Settles, Passes, RunsNone, Ticks, tick_word}
+use Rattle.machine.specs.Speed.{Speed, spared}
+use Rattle.run.specs.Steps.{AsksBack, Spares, Settles, Passes, RunsNone, Ticks, tick_word}
 
--- A state with other rows and another speed.
+-- A state with other rows and another pace.
+abbrev at_rows : State → Inner → Pace → State
+at_rows st s v = record { count = st.count; inner = s; pace = v; raise = st.raise; wake = st.wake }
+
+-- With that pace and the unit of a speed.
 abbrev settled_at : State → Inner → Speed → Now
-settled_at st s v = record { state = record { count = st.count; inner = s; pace = v.pace; raise = st.raise; wake = st.wake }; unit = v.unit }
+settled_at st s v = record { state = at_rows st s v.pace; unit = v.unit }
 
 -- Releases, an election, the admitted level again, and rest or a lower level are a settling.
-pub settles : (x : Nature) (p : Plan) (st : State) (u u₁ u₂ : Meaning) (s₁ s₂ : Inner) (v w : Pace) →
+pub settles : (x x₁ : Nature) (p : Plan) (st : State) (u u₁ u₂ : Meaning) (s₁ s₂ : Inner) (v w : Pace) →
     s₁ ≡ release_due p.tasks st.count st.inner → s₂ ≡ elect s₁ →
-    WithRaise x (λ lag. ask_back x p.admitted lag st.pace u) (record { pace = v; unit = u₁ }) →
-    WithRaise x (λ lag. spared x p lag st.count st.raise st.wake s₂ v u₁) (record { pace = w; unit = u₂ }) →
-    Settles x p (record { state = st; unit = u }) (settled_at st s₂ (record { pace = w; unit = u₂ }))
-settles x p st u u₁ u₂ s₁ s₂ v w released elected (back, low, asked) (slowed, low', spares) =
+    AsksBack x p (at_rows st s₂ st.pace) u (record { pace = v; unit = u₁ }) → x₁ ≡ x →
+    Spares x₁ p (at_rows st s₂ v) u₁ (record { pace = w; unit = u₂ }) →
+    Settles x p (record { state = st; unit = u }) (record { state = at_rows st s₂ w; unit = u₂ })
+settles x x₁ p st u u₁ u₂ s₁ s₂ v w released elected (back, low, asked) fixed spares₁ =
+    let (slowed, low', spares) = subst (λ (y : Nature). Spares y p (at_rows st s₂ v) u₁ (record { pace = w; unit = u₂ })) fixed spares₁ in
     let after : Inner = elect (release_due p.tasks st.count st.inner) in
     let same : after ≡ s₂ = sym (elected ∙ ap elect released) in
     record {

@@ -1,19 +1,39 @@
 -- What the parts of a settling do, with some lag within the allowance where they ask the unit.
-use Rattle.std.specs.Prelude.{◌≡◌, ℕ, ◌≤◌, Bool, true, false}
-use Rattle.units.specs.Meaning.{Nature}
-use Rattle.machine.specs.Machine.{Now, Lags, Within, settle, pass, tick, run_row, run_none}
-use Rattle.machine.specs.Inner.{Inner}
+use Rattle.std.specs.Prelude.{◌≡◌, ℕ, ◌-◌, ◌≤◌, Bool, true, false, cond, None, Option, nat_lt}
+use Rattle.units.specs.Meaning.{Meaning, Nature}
+use Rattle.machine.specs.Machine.{State, Now, Lags, Within, settle, pass, tick, run_row, run_none}
+use Rattle.machine.specs.Inner.{Inner, job_at}
 use Rattle.machine.specs.declared.job.Pace.{Pace}
 use Rattle.machine.specs.declared.word.Reply.{Reply}
 use Rattle.machine.specs.declared.word.Reply.TheVariants.{Ran}
 use Rattle.machine.specs.declared.word.Report.{Report}
 use Rattle.machine.specs.declared.word.Word.{Word}
 use Rattle.machine.specs.declared.word.Word.TheVariants.{GoOn, Ended}
-use Rattle.machine.specs.Plans.{Plan}
+use Rattle.machine.specs.Plans.{Plan, task_at}
+use Rattle.machine.specs.Speed.{Speed, window, enough_in, ask_back, rest_or_slow, spared}
 
 -- For some lag within the raise allowance, a value is this function of it.
 abbrev pub WithRaise : {X : Type 0} → Nature → (ℕ → X) → X → Type 0
 WithRaise x f r = (lag : ℕ) × (lag ≤ x.raise) × (f lag ≡ r)
+
+-- The lowest listed level at which the job of the row i, alone, is done within its window.
+abbrev pub level_in_window : Plan → State → ℕ → Option ℕ
+level_in_window p st i =
+    let j = job_at st.inner.jobs i in
+    let w = window st.count st.raise j st.inner.delay in
+    cond (nat_lt 0 w) (enough_in w ((task_at p.tasks i).work - j.given) p.levels) None
+
+-- What a state asks of its unit: the admitted level again, if the job that it was slowed for is finished.
+abbrev pub AsksBack : Nature → Plan → State → Meaning → Speed → Type 0
+AsksBack x p st u v = WithRaise x (λ lag. ask_back x p.admitted lag st.pace u) v
+
+-- A rest or a lower level, of a unit at the admitted level that works.
+abbrev pub RestsOrSlows : Nature → Plan → State → Meaning → Speed → Type 0
+RestsOrSlows x p st u v = WithRaise x (λ lag. rest_or_slow x p lag st.count st.raise st.wake st.inner.active st.inner.queue st.inner u) v
+
+-- The same of any unit: one that rests, lags or is slowed is asked nothing.
+abbrev pub Spares : Nature → Plan → State → Meaning → Speed → Type 0
+Spares x p st u v = WithRaise x (λ lag. spared x p lag st.count st.raise st.wake st.inner st.pace u) v
 
 -- A settling.
 pub record Settles (x : Nature) (p : Plan) (before after : Now) : Type 0 where
