@@ -1,22 +1,25 @@
 -- The parts of a settling, and of the end of a tick, put together.
-use Rattle.std.proofs.Common.{◌≡◌, ℕ, suc, ◌+◌, ◌≤◌, Bool, true, false, leb, sym, ap, ◌∙◌, subst, add-one, arith}
-use Rattle.std.proofs.lemmas.Bool.{cond-true, le-leb}
+use Rattle.std.proofs.Common.{◌≡◌, ℕ, suc, ◌+◌, ◌<◌, ◌≤◌, Bool, true, false, leb, Err, sym, ap, ap₂, ◌∙◌, subst, add-one, arith}
+use Rattle.std.specs.Prelude
+use Rattle.std.proofs.lemmas.Bool.{cond-true, cond-false, le-leb, lt-leb}
 use Rattle.fault.specs.declared.Fault.{Fault}
-use Rattle.fault.specs.declared.Refusal.TheVariants.{CountFull, NothingGiven}
+use Rattle.fault.specs.declared.Refusal.TheVariants.{CountFull}
 use Rattle.fault.specs.Faults.{fault_at}
 use Rattle.units.proofs.Calls.{tick_is}
-use Rattle.units.specs.Meaning.{Meaning, Nature, Ticked}
+use Rattle.units.specs.Meaning.{Meaning, Nature, Ticked, works}
 use Rattle.machine.specs.declared.job.Pace.{Pace}
 use Rattle.machine.specs.declared.word.Reply.{Reply}
 use Rattle.machine.specs.declared.word.Reply.TheVariants.{Stands, Refused}
+use Rattle.machine.specs.declared.word.Report.{Report}
 use Rattle.machine.specs.declared.word.RunStanding.{RunStanding}
 use Rattle.machine.specs.declared.word.Word.TheVariants.{Standing}
 use Rattle.machine.specs.Inner.{Inner, release_due, elect}
 use Rattle.machine.specs.Machine.{State, Now, Lags, Within, Result, settle, standing_of}
 use Rattle.machine.specs.Plans.{Plan}
 use Rattle.machine.specs.Reached.{Said}
+use Rattle.machine.specs.Replies.{reply_of}
 use Rattle.machine.specs.Speed.{Speed, spared}
-use Rattle.run.specs.Steps.{AsksBack, Spares, Settles, Passes, RunsNone, Ticks, tick_word}
+use Rattle.run.specs.Steps.{AsksBack, Spares, Settles, Passes, Runs, Ticks, tick_word}
 
 -- A state with other rows and another pace.
 abbrev at_rows : State → Inner → Pace → State
@@ -68,12 +71,14 @@ no_lags = record { back = 0; slowed = 0; woken = 0 }
 no_lags_within : (x : Nature) → Within x no_lags
 no_lags_within x = record { back = omega arith; slowed = omega arith; woken = omega arith }
 
--- Where no row runs, ended is refused and nothing changes.
-pub nothing_given : (x : Nature) (p : Plan) (now : Now) (f : Fault) → f ≡ fault_at NothingGiven 0 0 → RunsNone x p true now (Refused f) now
-nothing_given x p now f is = record {
+-- What is refused in a tick changes nothing.
+pub refused : (x : Nature) (p : Plan) (said : Bool) (level : ℕ) (st st₁ : State) (u : Meaning) (f : Fault) (r : Prelude.Result Report Fault) → st.count < 1000000000 →
+    works u ≡ level → Runs p said level st (Err f) st₁ → st₁ ≡ st → r ≡ Err f → Ticks x p said (record { state = st; unit = u }) (reply_of r) (record { state = st₁; unit = u })
+refused x p said level st st₁ u f r room at runs kept is = record {
   lags = no_lags;
   within = no_lags_within x;
-  is = ap (λ (e : Fault). record { reply = Refused e; now = now }) (sym is);
+  is = cond-false {A = Result} (leb 1000000000 st.count) _ _ (lt-leb 1000000000 st.count room) ∙ runs x no_lags u at ∙
+      ap₂ (λ (y : Reply) (s : State). record { reply = y; now = record { state = s; unit = u } }) (ap reply_of (sym is)) (sym kept);
 }
 
 -- At the last count every tick is refused and nothing changes.

@@ -1,11 +1,12 @@
 -- What the parts of a settling do, with some lag within the allowance where they ask the unit.
-use Rattle.std.specs.Prelude.{◌≡◌, ℕ, ◌-◌, ◌≤◌, Bool, true, false, cond, None, Option, nat_lt}
-use Rattle.units.specs.Meaning.{Meaning, Nature}
-use Rattle.machine.specs.Machine.{State, Now, Lags, Within, settle, pass, tick, run_row, run_none}
+use Rattle.std.specs.Prelude.{◌≡◌, ℕ, ◌-◌, ◌≤◌, Bool, true, false, cond, None, Ok, Err, Option, Result, nat_lt}
+use Rattle.fault.specs.declared.Fault.{Fault}
+use Rattle.units.specs.Meaning.{Meaning, Nature, works}
+use Rattle.machine.specs.Machine.{State, Now, Lags, Within, same, settle, pass, tick, run_active}
 use Rattle.machine.specs.Inner.{Inner, job_at}
 use Rattle.machine.specs.declared.job.Pace.{Pace}
 use Rattle.machine.specs.declared.word.Reply.{Reply}
-use Rattle.machine.specs.declared.word.Reply.TheVariants.{Ran}
+use Rattle.machine.specs.declared.word.Reply.TheVariants.{Ran, Refused}
 use Rattle.machine.specs.declared.word.Report.{Report}
 use Rattle.machine.specs.declared.word.Word.{Word}
 use Rattle.machine.specs.declared.word.Word.TheVariants.{GoOn, Ended}
@@ -23,15 +24,13 @@ level_in_window p st i =
     let w = window st.count st.raise j st.inner.delay in
     cond (nat_lt 0 w) (enough_in w ((task_at p.tasks i).work - j.given) p.levels) None
 
--- What a state asks of its unit: the admitted level again, if the job that it was slowed for is finished.
+-- What a state asks of its unit: the admitted level again; a rest or a lower level; and these only where the unit is at the admitted level and works.
 abbrev pub AsksBack : Nature → Plan → State → Meaning → Speed → Type 0
 AsksBack x p st u v = WithRaise x (λ lag. ask_back x p.admitted lag st.pace u) v
 
--- A rest or a lower level, of a unit at the admitted level that works.
 abbrev pub RestsOrSlows : Nature → Plan → State → Meaning → Speed → Type 0
 RestsOrSlows x p st u v = WithRaise x (λ lag. rest_or_slow x p lag st.count st.raise st.wake st.inner.active st.inner.queue st.inner u) v
 
--- The same of any unit: one that rests, lags or is slowed is asked nothing.
 abbrev pub Spares : Nature → Plan → State → Meaning → Speed → Type 0
 Spares x p st u v = WithRaise x (λ lag. spared x p lag st.count st.raise st.wake st.inner st.pace u) v
 
@@ -58,13 +57,10 @@ pub record Ticks (x : Nature) (p : Plan) (said : Bool) (before : Now) (reply : R
   pub within : Within x lags
   pub is : tick x p lags said before.state before.unit ≡ record { reply = reply; now = after }
 
--- A tick in which the active row i ran, and one in which none did.
-pub record RunsRow (x : Nature) (p : Plan) (said : Bool) (i : ℕ) (before : Now) (report : Report) (after : Now) : Type 0 where
-  pub lags : Lags
-  pub within : Within x lags
-  pub is : run_row x p lags said i before.state before.unit ≡ record { reply = Ran report; now = after }
-
-pub record RunsNone (x : Nature) (p : Plan) (said : Bool) (before : Now) (reply : Reply) (after : Now) : Type 0 where
-  pub lags : Lags
-  pub within : Within x lags
-  pub is : run_none x p lags said before.state before.unit ≡ record { reply = reply; now = after }
+-- What runs in a tick at a level, up to the end of the tick: with any lags of a unit that works at this level, the tick replies this, and its end is that of these rows at this pace.
+abbrev pub Runs : Plan → Bool → ℕ → State → Result Report Fault → State → Type 0
+Runs p said level st (Ok report) st' =
+    (x : Nature) (l : Lags) (u : Meaning) → works u ≡ level →
+    run_active x p l said st.inner.active st u ≡ record { reply = Ran report; now = pass x p l st'.inner st'.pace st' u }
+Runs p said level st (Err fault) st' =
+    (x : Nature) (l : Lags) (u : Meaning) → works u ≡ level → run_active x p l said st.inner.active st u ≡ record { reply = Refused fault; now = same st u }

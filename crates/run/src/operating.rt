@@ -5,7 +5,8 @@ ghost use Rattle.tasks.specs.Admission.{SomeEmpty, EveryLevelLate};
 ghost use Rattle.tasks.specs.Tables.{levels_of, tasks_of};
 ghost use Rattle.units.specs.Meaning.{Meaning, off as nothing};
 ghost use Rattle.machine.specs.Reached.{Said, Reached};
-ghost use Rattle.run.specs.Promises.{GoesOn, reply_of};
+ghost use Rattle.machine.specs.Replies.{reply_of};
+ghost use Rattle.run.specs.Promises.{GoesOn};
 ghost use Rattle.run.specs.Views.{plan_in, moment};
 ghost use Rattle.run.specs.Whole.{Operates, RefusedExactly};
 
