@@ -1,10 +1,9 @@
 -- What a run asks, by what it finds.
-use Rattle.std.proofs.Common.{◌≡◌, ℕ, true, None, Ok, Err, Option, Result, sym, ap, ◌∙◌, arith, MatchResult}
+use Rattle.std.proofs.Common.{◌≡◌, ℕ, true, None, Ok, Result, sym, MatchResult}
 use Rattle.std.proofs.lemmas.Bool.{and_parts}
 use Rattle.fault.specs.declared.Fault.{Fault}
-use Rattle.fault.specs.declared.Refusal.{Refusal}
 use Rattle.units.proofs.Calls.{ask_is}
-use Rattle.units.specs.Calls.{ask_with, ask_refusal, answer, unless}
+use Rattle.units.specs.Calls.{ask_with, ask_refusal}
 use Rattle.units.specs.Meaning.{Meaning, Nature, ready, Asked}
 use Rattle.machine.specs.Speed.{may_ask}
 use Rattle.run.specs.Steps.{WithRaise}
@@ -17,12 +16,11 @@ taken x level u e = let p = and_parts (ready u) (x.takes level) e in simp (p.0, 
 pub asks : (x : Nature) (level : ℕ) (u : Meaning) (r : Result (Unit {0}) Fault) (u' : Meaning) → may_ask x level u ≡ true → Asked x level u r u' →
     (r ≡ Ok tt) × WithRaise x (λ lag. ask_with lag level u) u'
 asks x level u r u' e a =
-    let (lag, le, (is, left)) = (ask_is x level u r u').0 a in
-    let none = taken x level u e in
-    (is ∙ ap answer none, (lag, le, sym (left ∙ ap (λ (why : Option Refusal). unless why (ask_with lag level u) u) none)))
+    let (lag, le, is) = (ask_is x level u r u').0 a in
+    let (ok, left) = rw (taken x level u e) at is in
+    (ok, (lag, le, sym left))
 
 -- So it is not refused.
 pub asks_well : (x : Nature) (level : ℕ) (u : Meaning) (r : Result (Unit {0}) Fault) (u' : Meaning) → may_ask x level u ≡ true → Asked x level u r u' →
     MatchResult r (λ _. WithRaise x (λ lag. ask_with lag level u) u') (λ _. ⊥)
-asks_well x level u (Ok t) u' e a = (asks x level u (Ok t) u' e a).1
-asks_well x level u (Err f) u' e a = let is = (asks x level u (Err f) u' e a).0 in let z : ◌≡◌ {A = ℕ} 0 1 = cc in omega arith
+asks_well x level u r u' e a = let p = asks x level u r u' e a in rw p.0 p.1

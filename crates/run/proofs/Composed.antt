@@ -1,7 +1,7 @@
 -- The parts of a settling, and of the end of a tick, put together.
-use Rattle.std.proofs.Common.{◌≡◌, ℕ, suc, ◌+◌, ◌<◌, ◌≤◌, Bool, true, false, leb, Err, sym, ap, ap₂, ◌∙◌, subst, add-one, arith}
+use Rattle.std.proofs.Common.{◌≡◌, ℕ, ◌+◌, ◌<◌, ◌≤◌, Bool, true, false, Err, sym, ap, ◌∙◌, add-one, arith}
 use Rattle.std.specs.Prelude
-use Rattle.std.proofs.lemmas.Bool.{cond-true, cond-false, le-leb, lt-leb}
+use Rattle.std.proofs.lemmas.Bool.{le-leb, lt-leb}
 use Rattle.fault.specs.declared.Fault.{Fault}
 use Rattle.fault.specs.declared.Refusal.TheVariants.{CountFull}
 use Rattle.fault.specs.Faults.{fault_at}
@@ -14,20 +14,15 @@ use Rattle.machine.specs.declared.word.Report.{Report}
 use Rattle.machine.specs.declared.word.RunStanding.{RunStanding}
 use Rattle.machine.specs.declared.word.Word.TheVariants.{Standing}
 use Rattle.machine.specs.Inner.{Inner, release_due, elect}
-use Rattle.machine.specs.Machine.{State, Now, Lags, Within, Result, settle, standing_of}
+use Rattle.machine.specs.Machine.{State, Now, Lags, Within, standing_of}
 use Rattle.machine.specs.Plans.{Plan}
 use Rattle.machine.specs.Reached.{Said}
 use Rattle.machine.specs.Replies.{reply_of}
-use Rattle.machine.specs.Speed.{Speed, spared}
 use Rattle.run.specs.Steps.{AsksBack, Spares, Settles, Passes, Runs, Ticks, tick_word}
 
 -- A state with other rows and another pace.
 abbrev at_rows : State → Inner → Pace → State
 at_rows st s v = record { count = st.count; inner = s; pace = v; raise = st.raise; wake = st.wake }
-
--- With that pace and the unit of a speed.
-abbrev settled_at : State → Inner → Speed → Now
-settled_at st s v = record { state = at_rows st s v.pace; unit = v.unit }
 
 -- Releases, an election, the admitted level again, and rest or a lower level are a settling.
 pub settles : (x x₁ : Nature) (p : Plan) (st : State) (u u₁ u₂ : Meaning) (s₁ s₂ : Inner) (v w : Pace) →
@@ -36,14 +31,13 @@ pub settles : (x x₁ : Nature) (p : Plan) (st : State) (u u₁ u₂ : Meaning) 
     Spares x₁ p (at_rows st s₂ v) u₁ (record { pace = w; unit = u₂ }) →
     Settles x p (record { state = st; unit = u }) (record { state = at_rows st s₂ w; unit = u₂ })
 settles x x₁ p st u u₁ u₂ s₁ s₂ v w released elected (back, low, asked) fixed spares₁ =
-    let (slowed, low', spares) = subst (λ (y : Nature). Spares y p (at_rows st s₂ v) u₁ (record { pace = w; unit = u₂ })) fixed spares₁ in
+    let (slowed, low', spares) = rw fixed at spares₁ in
     let after : Inner = elect (release_due p.tasks st.count st.inner) in
     let same : after ≡ s₂ = sym (elected ∙ ap elect released) in
     record {
       lags = record { back = back; slowed = slowed; woken = 0 };
       within = record { back = low; slowed = low'; woken = omega arith };
-      is = ap (λ (y : Speed). settled_at st after (spared x p slowed st.count st.raise st.wake after y.pace y.unit)) asked ∙
-          ap (λ (s : Inner). settled_at st s (spared x p slowed st.count st.raise st.wake s v u₁)) same ∙ ap (λ (y : Speed). settled_at st s₂ y) spares;
+      is = simp (asked, same, spares);
     }
 
 -- A state with another count.
@@ -56,12 +50,12 @@ pub passes : (x x₁ : Nature) (p : Plan) (st : State) (u u₁ : Meaning) (after
     Passes x p st.inner st.pace (record { state = st; unit = u }) after
 passes x x₁ p st u u₁ after ticked fixed settles₁ =
     let (lag, low, is) = (tick_is x u u₁).0 ticked in
-    let settled = subst (λ (y : Nature). Settles y p (record { state = at_count st (st.count + 1); unit = u₁ }) after) fixed settles₁ in
+    let settled = rw fixed at settles₁ in
     let l : Lags = record { back = settled.lags.back; slowed = settled.lags.slowed; woken = lag } in
     record {
       lags = l;
       within = record { back = settled.within.back; slowed = settled.within.slowed; woken = low };
-      is = ap (λ (m : Meaning). settle x p l (at_count st (suc st.count)) m) (sym is) ∙ ap (λ (n : ℕ). settle x p l (at_count st n) u₁) (sym (add-one st.count)) ∙ settled.is;
+      is = rw (← is, ← add-one st.count) settled.is;
     }
 
 -- A call in which the unit takes no lag.
@@ -73,12 +67,11 @@ no_lags_within x = record { back = omega arith; slowed = omega arith; woken = om
 
 -- What is refused in a tick changes nothing.
 pub refused : (x : Nature) (p : Plan) (said : Bool) (level : ℕ) (st st₁ : State) (u : Meaning) (f : Fault) (r : Prelude.Result Report Fault) → st.count < 1000000000 →
-    works u ≡ level → Runs p said level st (Err f) st₁ → st₁ ≡ st → r ≡ Err f → Ticks x p said (record { state = st; unit = u }) (reply_of r) (record { state = st₁; unit = u })
-refused x p said level st st₁ u f r room at runs kept is = record {
+    works u ≡ level → Runs p said level st (Err f) st₁ → r ≡ Err f → Ticks x p said (record { state = st; unit = u }) (reply_of r) (record { state = st₁; unit = u })
+refused x p said level st st₁ u f r room at runs is = record {
   lags = no_lags;
   within = no_lags_within x;
-  is = cond-false {A = Result} (leb 1000000000 st.count) _ _ (lt-leb 1000000000 st.count room) ∙ runs x no_lags u at ∙
-      ap₂ (λ (y : Reply) (s : State). record { reply = y; now = record { state = s; unit = u } }) (ap reply_of (sym is)) (sym kept);
+  is = simp (lt-leb 1000000000 st.count room, runs x no_lags u at, is);
 }
 
 -- At the last count every tick is refused and nothing changes.
@@ -86,7 +79,7 @@ pub count_full : (x : Nature) (p : Plan) (said : Bool) (now : Now) (f : Fault) �
 count_full x p said now f last is = record {
   lags = no_lags;
   within = no_lags_within x;
-  is = cond-true {A = Result} (leb 1000000000 now.state.count) _ _ (le-leb 1000000000 now.state.count last) ∙ ap (λ (e : Fault). record { reply = Refused e; now = now }) (sym is);
+  is = simp (le-leb 1000000000 now.state.count last, is);
 }
 
 -- A tick is what is done for its word.
@@ -96,4 +89,4 @@ ticked_by x p false before reply after t = record { lags = t.lags; within = t.wi
 
 -- The question where the run stands changes nothing.
 pub stood_by : (x : Nature) (p : Plan) (now : Now) (r : RunStanding) → Stands r ≡ standing_of now.state now.unit → Said x p Standing now (Stands r) now
-stood_by x p now r is = record { lags = no_lags; within = no_lags_within x; is = ap (λ (y : Reply). record { reply = y; now = now }) (sym is) }
+stood_by x p now r is = record { lags = no_lags; within = no_lags_within x; is = simp is }

@@ -39,9 +39,9 @@ fn say_all<U: SpeedUnit>(run: &mut Run, words: &[Word], unit: &mut U, events: &m
     ensures promise { (starts : List ℕ) (u : Meaning) → Reached (U.nature unit.old) (plan_in run.old) starts u (reverse events.old.items) (moment run.old (U.meaning unit.old)) → Reached (U.nature unit.old) (plan_in run.old) starts u (reverse events.new.items) (moment run.new (U.meaning unit.new)) }
     ensures fixed { U.nature unit.new ≡ U.nature unit.old }
 {
-    for word in words {
-        let reply = run.say(*word, unit);
-        events.push_reserved(Event { word: *word, reply });
+    for &word in words {
+        let reply = run.say(word, unit);
+        events.push_reserved(Event { word, reply });
     }
 }
 

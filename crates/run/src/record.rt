@@ -24,6 +24,7 @@ pub enum Halt {
     NotBegun(Back<AdmittedPlan>),
 }
 
+// A refused admission, with its table.
 impl From<Back<OpenTable>> for Halt {
     ghost from_gives = { λ back halt. halt ≡ NotAdmitted back };
 
@@ -32,6 +33,7 @@ impl From<Back<OpenTable>> for Halt {
     }
 }
 
+// A refused begin, with its plan.
 impl From<Back<AdmittedPlan>> for Halt {
     ghost from_gives = { λ back halt. halt ≡ NotBegun back };
 

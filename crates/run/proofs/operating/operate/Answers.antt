@@ -1,6 +1,8 @@
 use Rattle.std.proofs.Common.{◌≡◌, [], vec_items, rules}
+use Rattle.units.specs.Meaning.{off}
+use Rattle.machine.specs.Machine.{numbers}
 use Rattle.run.specs.Views.{moment}
-use Rattle.run.proofs.Wholes.{operated, off_numbers, from_begin}
+use Rattle.run.proofs.Wholes.{operated, from_begin}
 use Rattle.run.proofs.operating.operate.Goals as goal
 
 pub returns-clause-does : goal.returns-clause-does
@@ -12,5 +14,5 @@ returns-clause-does g c =
     let last = moment c.say_all.new.run (unit.meaning c.say_all.new.unit) in
     let none : vec_items c.in-Ok.events ≡ [] = search rules in
     let reached = from_begin _ _ c.in_ok-plan.plan _ c.args.starts.now (unit.meaning c.args.unit.now) (vec_items c.in-Ok.events) (vec_items c.say_all.new.events) _ last begun.fixed begun.does.0 none said.promise begun.does.1 in
-    let end = off_numbers c.standing.result (unit.meaning c.stand_down.new.unit) c.standing.ensures.asked c.standing.ensures.lag c.standing.ensures.rest c.stand_down.ensures.off in
+    let end : c.standing.result ≡ numbers off = search rules in
     operated _ c.args.table _ _ _ c.in_ok-plan.plan _ last admitted.answer.1 admitted.answer.2 c.level-level.ensures.is admitted.lowest (simp none at said.said) reached end

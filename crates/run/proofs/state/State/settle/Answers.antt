@@ -5,13 +5,9 @@ use Rattle.run.specs.Views.{plan_of, state_of}
 use Rattle.run.proofs.Composed.{settles}
 use Rattle.run.proofs.state.State.settle.Goals as goal
 
-pub returns : goal.returns
-returns g c =
+pub returns-clause-does : goal.returns-clause-does
+returns-clause-does g c =
     let st = state_of c.args.self.now in
     let released = c.release_due.ensures ∙ ap (λ (ts : List Task). release_due ts st.count st.inner) c.tasks.ensures in
     let back = c.back-self.ensures in
-    let spare = c.spare-self.ensures in
-    record {
-      does = settles _ _ (plan_of c.args.plan.now) st (g.U.SpeedUnit.meaning c.args.unit.now) (g.U.SpeedUnit.meaning c.back-self.new.unit) _ _ _ c.back-self.result _ released c.elect.ensures back.does back.fixed spare.does;
-      fixed = spare.fixed ∙ back.fixed;
-    }
+    settles _ _ (plan_of c.args.plan.now) st (g.U.SpeedUnit.meaning c.args.unit.now) (g.U.SpeedUnit.meaning c.back-self.new.unit) _ _ _ c.back-self.result _ released c.elect.ensures back.does back.fixed c.spare-self.ensures.does

@@ -14,4 +14,4 @@ returns-in_err-report-clause-does g c =
     let e = c.in_err-report.ensures in
     let (_, is, same) = err_from_is_err_and c.from_residual.result c.from_residual.ensures.1 in
     let at : works (g.U.SpeedUnit.meaning c.args.unit.now) ≡ c.works.result = search rules in
-    refused _ _ _ _ _ _ _ _ c.from_residual.result c.if-self-ge1000000000.false at e.does (ap state_of e.kept) (is ∙ ap (λ (f : Fault). Err f) same)
+    refused _ _ _ _ _ (state_of c.run.new.self) _ _ c.from_residual.result c.if-self-ge1000000000.false at e.does (is ∙ ap (λ (f : Fault). Err f) same)
