@@ -5,5 +5,6 @@ pub mod Machine
 pub mod Begin
 pub mod History
 pub mod Reached
+pub mod Replies
 pub mod Promises
 pub mod Printed

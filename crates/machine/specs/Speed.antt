@@ -1,5 +1,6 @@
 -- What a run asks of its unit.
 use Rattle.std.specs.Prelude.{ℕ, ◌-◌, ◌*◌, min, Bool, cond, ◌&&◌, List, [], ◌∷◌, Some, None, Option, nat_le, nat_lt}
+use Rattle.std.specs.List.{find}
 use Rattle.queue.specs.declared.Entry.{Entry}
 use Rattle.units.specs.Calls.{ask_with, rest_for}
 use Rattle.units.specs.Meaning.{Meaning, Nature, ready}
@@ -43,8 +44,7 @@ window n r j d = window_end j.due d - r - n
 
 -- The lowest level of a list that, times the window, is at least the units still to give.
 abbrev pub enough_in : ℕ → ℕ → List ℕ → Option ℕ
-enough_in w need [] = None
-enough_in w need (g ∷ gs) = cond (nat_le need (g * w)) (Some g) (enough_in w need gs)
+enough_in w need gs = find (λ g. nat_le need (g * w)) gs
 
 -- The unit is slowed for the row i to that level, if it is below the admitted level f.
 abbrev pub slow_to : Nature → ℕ → ℕ → ℕ → Option ℕ → Meaning → Speed

@@ -1,6 +1,7 @@
 // What is said to a run, and what it replies.
-ghost use Rattle.std.specs.Prelude.{Some};
+ghost use Rattle.std.specs.Prelude.{◌≡◌, Some};
 ghost use Rattle.machine.specs.Printed.{outcome_text, report_items, run_standing_items, reply_items};
+ghost use Rattle.machine.specs.Replies.{reply_of};
 
 use fault::Fault;
 use std::fmt;
@@ -45,6 +46,18 @@ pub enum Reply {
     Ran(Report),
     Stands(RunStanding),
     Refused(Fault),
+}
+
+// The reply of a tick, by its result.
+impl From<Result<Report, Fault>> for Reply {
+    ghost from_gives = { λ outcome reply. reply ≡ reply_of outcome };
+
+    fn from(outcome: Result<Report, Fault>) -> Reply {
+        match outcome {
+            Ok(report) => Reply::Ran(report),
+            Err(fault) => Reply::Refused(fault),
+        }
+    }
 }
 
 // A word with its reply.

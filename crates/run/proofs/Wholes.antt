@@ -1,11 +1,9 @@
 -- A whole run, put together.
-use Rattle.std.proofs.Common.{◌≡◌, ℕ, List, [], ◌∷◌, map, reverse, vec_items, sym, ap, ◌∙◌, subst, ap₂}
-use Rattle.theory.specs.Tasks.{Task}
+use Rattle.std.proofs.Common.{◌≡◌, ℕ, List, [], ◌∷◌, map, reverse, vec_items}
 use Rattle.tasks.specs.Admission.{LowestInTime, plan_levels, plan_tasks, plan_answers}
 use Rattle.tasks.specs.Tables.{levels_of, tasks_of}
 use Rattle.tasks.specs.declared.plan.AdmittedPlan.{AdmittedPlan}
 use Rattle.tasks.specs.declared.table.OpenTable.{OpenTable}
-use Rattle.units.specs.declared.unit.Standing.{Standing as Numbers}
 use Rattle.units.specs.Meaning.{Meaning, Nature, off}
 use Rattle.machine.proofs.Promises.{every_run_is_lawful}
 use Rattle.machine.specs.declared.word.Event.{Event}
@@ -30,21 +28,15 @@ began_accepted : (x : Nature) (p : Plan) (starts : List ℕ) (u : Meaning) (h : 
 began_accepted x p starts u [] now r = (now, r)
 began_accepted x p starts u (e ∷ h) now (before, r, said) = began_accepted x p starts u h before r
 
--- The numbers of a unit that is off.
-pub off_numbers : (s : Numbers) (m : Meaning) → s.asked ≡ m.asked → s.lag ≡ m.lag → s.rest ≡ m.rest → m ≡ off → s ≡ numbers off
-off_numbers s m a l r e =
-    ap₂ (λ (x y : ℕ). record { asked = x; lag = y; rest = s.rest }) a l ∙ ap (λ (z : ℕ). record { asked = m.asked; lag = m.lag; rest = z }) r ∙ ap numbers e
-
 -- A table that is admitted, and a history that is reached from the begin of its plan, are a whole run.
 pub operated : (x : Nature) (t : OpenTable) (starts : List ℕ) (u : Meaning) (words : List Word) (plan : AdmittedPlan) (r : Record) (last : Now) →
     plan_levels plan ≡ levels_of t → plan_tasks plan ≡ tasks_of t → r.level ≡ plan.level → LowestInTime (levels_of t) (tasks_of t) plan.level (plan_answers plan) →
     map (λ e. e.word) (vec_items r.events) ≡ words → Reached x (plan_of plan) starts u (history r) last → r.end ≡ numbers off → Operated x t starts u words r
 operated x t starts u words plan r last levels tasks level low said reached end =
-    let same : plan_of plan ≡ plan_at t r.level =
-    ap₂ (λ (ls : List ℕ) (ts : List Task). record { tasks = ts; levels = ls; admitted = plan.level }) levels tasks ∙ ap (plan_at t) (sym level) in
-    let here = subst (λ (p : Plan). Reached x p starts u (history r) last) same reached in
+    let same : plan_of plan ≡ plan_at t r.level = simp (levels, tasks, level) in
+    let here = rw same at reached in
     record {
-      lowest = (plan_answers plan, subst (λ (f : ℕ). LowestInTime (levels_of t) (tasks_of t) f (plan_answers plan)) (sym level) low);
+      lowest = (plan_answers plan, rw level low);
       accepted = (began_accepted x (plan_at t r.level) starts u (history r) last here).1.accepted;
       said = said;
       reached = (last, here);
@@ -57,7 +49,4 @@ operated x t starts u words plan r last levels tasks level low said reached end 
 pub from_begin : (x x₁ : Nature) (plan plan₁ : AdmittedPlan) (starts : List ℕ) (u : Meaning) (none events : List Event) (first last : Now) → x₁ ≡ x → plan₁ ≡ plan → none ≡ [] →
     ((s : List ℕ) (m : Meaning) → Reached x₁ (plan_of plan₁) s m (reverse none) first → Reached x₁ (plan_of plan₁) s m (reverse events) last) →
     Began x (plan_of plan) starts u first → Reached x (plan_of plan) starts u (reverse events) last
-from_begin x x₁ plan plan₁ starts u none events first last fixed same empty goes =
-    subst (λ (y : Nature). Reached y (plan_of plan) starts u [] first → Reached y (plan_of plan) starts u (reverse events) last) fixed
-    (subst (λ (q : AdmittedPlan). Reached x₁ (plan_of q) starts u [] first → Reached x₁ (plan_of q) starts u (reverse events) last) same
-    (subst (λ (l : List Event). Reached x₁ (plan_of plan₁) starts u (reverse l) first → Reached x₁ (plan_of plan₁) starts u (reverse events) last) empty (goes starts u)))
+from_begin x x₁ plan plan₁ starts u none events first last fixed same empty goes = rw (fixed, same, empty) at (goes starts u)

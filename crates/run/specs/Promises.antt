@@ -1,10 +1,7 @@
 -- What the calls of a run promise.
-use Rattle.std.specs.Prelude.{ℕ, List, ◌∷◌, Ok, Err, Result}
-use Rattle.fault.specs.declared.Fault.{Fault}
+use Rattle.std.specs.Prelude.{ℕ, List, ◌∷◌}
 use Rattle.units.specs.Meaning.{Meaning, Nature}
 use Rattle.machine.specs.declared.word.Reply.{Reply}
-use Rattle.machine.specs.declared.word.Reply.TheVariants.{Ran, Refused}
-use Rattle.machine.specs.declared.word.Report.{Report}
 use Rattle.machine.specs.declared.word.Word.{Word}
 use Rattle.machine.specs.History.{History}
 use Rattle.machine.specs.Machine.{Now}
@@ -22,8 +19,3 @@ pub record Promised (x : Nature) (p : Plan) (starts : List ℕ) (u : Meaning) (h
 abbrev pub GoesOn : Nature → Plan → Word → Now → Reply → Now → Type 0
 GoesOn x p word before reply after =
     (starts : List ℕ) (u : Meaning) (h : History) → Reached x p starts u h before → Promised x p starts u (record { word = word; reply = reply } ∷ h) after
-
--- The reply of a tick, by its result.
-abbrev pub reply_of : Result Report Fault → Reply
-reply_of (Ok report) = Ran report
-reply_of (Err fault) = Refused fault

@@ -24,7 +24,7 @@ inner_of s = record {
 }
 
 abbrev pub state_of : State → MachineState
-state_of s = record { count = s.count; inner = inner_of s.inner; pace = s.pace; raise = s.raise; wake = s.wake }
+state_of s = record { count = s.count; inner = inner_of s.inner; pace = s.pace; raise = s.allowed.raise; wake = s.allowed.wake }
 
 -- The state of a run with its unit.
 abbrev pub now_of : State → Meaning → Now

@@ -42,8 +42,7 @@ fn open<U: SpeedUnit>(plan: &AdmittedPlan, starts: &[u32], unit: &mut U) -> Resu
         count: 0,
         inner,
         pace: Pace::Full,
-        raise: allowed.raise,
-        wake: allowed.wake,
+        allowed,
     };
     state.settle(plan, unit);
     Ok(state)

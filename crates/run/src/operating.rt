@@ -5,27 +5,16 @@ ghost use Rattle.tasks.specs.Admission.{SomeEmpty, EveryLevelLate};
 ghost use Rattle.tasks.specs.Tables.{levels_of, tasks_of};
 ghost use Rattle.units.specs.Meaning.{Meaning, off as nothing};
 ghost use Rattle.machine.specs.Reached.{Said, Reached};
-ghost use Rattle.run.specs.Promises.{GoesOn, reply_of};
+ghost use Rattle.run.specs.Promises.{GoesOn};
 ghost use Rattle.run.specs.Views.{plan_in, moment};
 ghost use Rattle.run.specs.Whole.{Operates, RefusedExactly};
 
 use crate::record::{Halt, Record};
 use crate::run::Run;
-use fault::Fault;
-use machine::word::{Event, Reply, Report, Word};
+use machine::word::{Event, Reply, Word};
 use std::alloc::Global;
 use tasks::table::OpenTable;
 use units::unit::SpeedUnit;
-
-// The reply of a tick.
-fn replied(res: Result<Report, Fault>) -> Reply
-    ensures { result ≡ reply_of res }
-{
-    match res {
-        Ok(report) => Reply::Ran(report),
-        Err(fault) => Reply::Refused(fault),
-    }
-}
 
 impl Run {
     // Says a word. A refused word is replied to as well, and the run can go on.
@@ -36,8 +25,8 @@ impl Run {
         ensures fixed { U.nature unit.new ≡ U.nature unit.old }
     {
         match word {
-            Word::GoOn => replied(self.go_on(unit)),
-            Word::Ended => replied(self.ended(unit)),
+            Word::GoOn => self.go_on(unit).into(),
+            Word::Ended => self.ended(unit).into(),
             Word::Standing => Reply::Stands(self.standing(unit)),
         }
     }
@@ -50,9 +39,9 @@ fn say_all<U: SpeedUnit>(run: &mut Run, words: &[Word], unit: &mut U, events: &m
     ensures promise { (starts : List ℕ) (u : Meaning) → Reached (U.nature unit.old) (plan_in run.old) starts u (reverse events.old.items) (moment run.old (U.meaning unit.old)) → Reached (U.nature unit.old) (plan_in run.old) starts u (reverse events.new.items) (moment run.new (U.meaning unit.new)) }
     ensures fixed { U.nature unit.new ≡ U.nature unit.old }
 {
-    for word in words {
-        let reply = run.say(*word, unit);
-        events.push_reserved(Event { word: *word, reply });
+    for &word in words {
+        let reply = run.say(word, unit);
+        events.push_reserved(Event { word, reply });
     }
 }
 
@@ -75,15 +64,9 @@ pub fn operate<U: SpeedUnit>(
     let Ok(mut events) = Vec::with_capacity(heap, words.len()) else {
         return Err(Halt::NoMemory(table));
     };
-    let plan = match table.admit() {
-        Ok(plan) => plan,
-        Err(back) => return Err(Halt::NotAdmitted(back)),
-    };
+    let plan = table.admit()?;
     let level = plan.level();
-    let (mut run, slip) = match Run::begin(plan, starts, unit) {
-        Ok(begun) => begun,
-        Err(back) => return Err(Halt::NotBegun(back)),
-    };
+    let (mut run, slip) = Run::begin(plan, starts, unit)?;
     say_all(&mut run, words, unit, &mut events);
     run.stand_down(slip, unit);
     Ok(Record {

@@ -1,4 +1,7 @@
 // What a whole run leaves, and why one does not begin.
+ghost use Rattle.std.specs.Prelude.{◌≡◌};
+ghost use Rattle.run.specs.declared.record.Halt.TheVariants.{NotAdmitted, NotBegun};
+
 use machine::word::Event;
 use tasks::back::Back;
 use tasks::plan::AdmittedPlan;
@@ -19,4 +22,22 @@ pub enum Halt {
     NoMemory(OpenTable),
     NotAdmitted(Back<OpenTable>),
     NotBegun(Back<AdmittedPlan>),
+}
+
+// A refused admission, with its table.
+impl From<Back<OpenTable>> for Halt {
+    ghost from_gives = { λ back halt. halt ≡ NotAdmitted back };
+
+    fn from(back: Back<OpenTable>) -> Halt {
+        Halt::NotAdmitted(back)
+    }
+}
+
+// A refused begin, with its plan.
+impl From<Back<AdmittedPlan>> for Halt {
+    ghost from_gives = { λ back halt. halt ≡ NotBegun back };
+
+    fn from(back: Back<AdmittedPlan>) -> Halt {
+        Halt::NotBegun(back)
+    }
 }

@@ -3,7 +3,6 @@ ghost use Rattle.std.specs.Prelude.{◌≡◌, ◌<◌};
 ghost use Rattle.run.specs.Steps.{Settles, Passes};
 ghost use Rattle.run.specs.Views.{plan_of, inner_of, now_of};
 
-use crate::speed::{back_to, spare};
 use crate::state::State;
 use tasks::plan::AdmittedPlan;
 use units::unit::SpeedUnit;
@@ -16,8 +15,8 @@ impl State {
     {
         self.inner.release_due(plan.tasks(), self.count);
         self.inner.elect();
-        let pace = back_to(plan.level(), self.pace, unit);
-        self.pace = spare(plan, self, pace, unit);
+        self.pace = self.back(plan, unit);
+        self.pace = self.spare(plan, unit);
     }
 
     // The unit ticks, the count rises by 1, and the run settles.

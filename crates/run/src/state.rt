@@ -3,6 +3,7 @@ ghost use Rattle.std.specs.Prelude.{◌≤◌};
 
 use crate::inner::Inner;
 use machine::job::Pace;
+use units::unit::Allowances;
 
 // The ticks since begin, the rows, whether the unit is slowed, and the allowances that begin found.
 #[derive(Drop)]
@@ -10,7 +11,6 @@ pub(crate) struct State {
     pub count: u32,
     pub inner: Inner,
     pub pace: Pace,
-    pub raise: u32,
-    pub wake: u32,
+    pub allowed: Allowances,
     ghost in_range: { count ≤ 1000000000 },
 }

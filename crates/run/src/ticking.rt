@@ -1,10 +1,12 @@
 // A tick of a run, and where it stands.
-ghost use Rattle.std.specs.Prelude.{◌≡◌, ◌<◌, ◌≤◌, true, Some, OnErr};
-ghost use Rattle.units.specs.Meaning.{works};
-ghost use Rattle.machine.specs.declared.word.Reply.TheVariants.{Stands, Refused};
+ghost use Rattle.std.specs.Prelude.{◌≡◌, ◌<◌, Some, Ok, Err, OnErr, if◌then◌else◌};
+ghost use Rattle.fault.specs.declared.Refusal.TheVariants.{NothingGiven};
+ghost use Rattle.fault.specs.Faults.{fault_at};
+ghost use Rattle.machine.specs.declared.word.Outcome.TheVariants.{Going};
+ghost use Rattle.machine.specs.declared.word.Reply.TheVariants.{Stands};
 ghost use Rattle.machine.specs.Machine.{outcome_of, pace_after, row_number, given_to, standing_of};
-ghost use Rattle.run.specs.Promises.{reply_of};
-ghost use Rattle.run.specs.Steps.{Ticks, RunsRow, RunsNone};
+ghost use Rattle.machine.specs.Replies.{reply_of};
+ghost use Rattle.run.specs.Steps.{Runs, Ticks};
 ghost use Rattle.run.specs.Views.{plan_of, state_of, now_of};
 
 use crate::rows::{job_of, task_of};
@@ -38,22 +40,29 @@ fn pace_after(row: u32, pace: Pace) -> Pace
     }
 }
 
+// The report of a tick in which no row runs, so that none can have ended in it.
+fn none_ran(said: bool) -> Result<Report, Fault>
+    ensures { result ≡ (if said then Err (fault_at NothingGiven 0 0) else Ok (record { row = 0; level = 0; units = 0; outcome = Going })) }
+{
+    if said {
+        return Err(Refusal::NothingGiven.into());
+    }
+    Ok(Report {
+        row: 0,
+        level: 0,
+        units: 0,
+        outcome: Outcome::Going,
+    })
+}
+
 impl State {
     // The job of the active row is given what the unit does in a tick, or what remains of its work. It is finished if that was said, or if it has
     // the whole work.
-    fn run_row<U: SpeedUnit>(
-        &mut self,
-        plan: &AdmittedPlan,
-        said: bool,
-        row: u32,
-        level: u32,
-        unit: &mut U,
-    ) -> Report
-        requires room { self.old.count < 1000000000 }
+    fn run_row(&mut self, plan: &AdmittedPlan, said: bool, row: u32, level: u32) -> Report
         requires active { self.old.inner.active ≡ Some row }
-        requires works { level ≡ works (U.meaning unit.old) }
-        ensures does { RunsRow (U.nature unit.old) (plan_of plan.now) said row (now_of self.old (U.meaning unit.old)) result (now_of self.new (U.meaning unit.new)) }
-        ensures fixed { U.nature unit.new ≡ U.nature unit.old }
+        requires works { 0 < level }
+        ensures does { Runs (plan_of plan.now) said level (state_of self.old) (Ok result) (state_of self.new) }
+        ensures count { self.new.count ≡ self.old.count }
     {
         let work = task_of(plan.tasks(), row).work;
         let given = job_of(&self.inner.jobs, row).given;
@@ -64,7 +73,6 @@ impl State {
             self.inner.finish_row(row);
             self.pace = pace_after(row, self.pace);
         }
-        self.pass(plan, unit);
         Report {
             row: row as usize + 1,
             level,
@@ -73,43 +81,16 @@ impl State {
         }
     }
 
-    // Why ended is refused where no row runs. The run and the unit are then left as they are.
-    fn nothing_given<U: SpeedUnit>(&self, plan: &AdmittedPlan, unit: &U) -> Fault
-        ensures { RunsNone (U.nature unit.now) (plan_of plan.now) true (now_of self.now (U.meaning unit.now)) (Refused result) (now_of self.now (U.meaning unit.now)) }
+    // What runs in a tick of a unit that works at a level: the active row, or none.
+    fn run(&mut self, plan: &AdmittedPlan, said: bool, level: u32) -> Result<Report, Fault>
+        ensures does { Runs (plan_of plan.now) said level (state_of self.old) result (state_of self.new) }
+        ensures count { self.new.count ≡ self.old.count }
+        ensures kept { OnErr result (self.new ≡ self.old) }
     {
-        Fault::new(Refusal::NothingGiven, 0, 0)
-    }
-
-    // Why a tick is refused at the last count. The run and the unit are then left as they are.
-    fn count_full<U: SpeedUnit>(&self, plan: &AdmittedPlan, said: bool, unit: &U) -> Fault
-        requires last { 1000000000 ≤ self.now.count }
-        ensures { Ticks (U.nature unit.now) (plan_of plan.now) said (now_of self.now (U.meaning unit.now)) (Refused result) (now_of self.now (U.meaning unit.now)) }
-    {
-        Fault::new(Refusal::CountFull, 0, 0)
-    }
-
-    // No row runs in this tick, so none can have ended in it.
-    fn run_none<U: SpeedUnit>(
-        &mut self,
-        plan: &AdmittedPlan,
-        said: bool,
-        unit: &mut U,
-    ) -> Result<Report, Fault>
-        requires room { self.old.count < 1000000000 }
-        ensures does { RunsNone (U.nature unit.old) (plan_of plan.now) said (now_of self.old (U.meaning unit.old)) (reply_of result) (now_of self.new (U.meaning unit.new)) }
-        ensures fixed { U.nature unit.new ≡ U.nature unit.old }
-        ensures kept { OnErr result ((self.new ≡ self.old) × (unit.new ≡ unit.old)) }
-    {
-        if said {
-            return Err(self.nothing_given(plan, unit));
+        match self.inner.active {
+            Some(row) if level > 0 => Ok(self.run_row(plan, said, row, level)),
+            _ => none_ran(said),
         }
-        self.pass(plan, unit);
-        Ok(Report {
-            row: 0,
-            level: 0,
-            units: 0,
-            outcome: Outcome::Going,
-        })
     }
 
     // A tick, in which ended was said or not; unless the count is at its end.
@@ -124,13 +105,11 @@ impl State {
         ensures kept { OnErr result ((self.new ≡ self.old) × (unit.new ≡ unit.old)) }
     {
         if self.count >= 1_000_000_000 {
-            return Err(self.count_full(plan, said, unit));
+            return Err(Refusal::CountFull.into());
         }
-        let level = unit.standing().works();
-        match self.inner.active {
-            Some(row) if level > 0 => Ok(self.run_row(plan, said, row, level, unit)),
-            _ => self.run_none(plan, said, unit),
-        }
+        let report = self.run(plan, said, unit.standing().works())?;
+        self.pass(plan, unit);
+        Ok(report)
     }
 
     // The number of the active row and the units that its job was given; 0 and 0 where there is none.
@@ -138,10 +117,9 @@ impl State {
         ensures row { result.0 ≡ row_number self.now.inner.active }
         ensures given { result.1 ≡ given_to self.now.inner.jobs self.now.inner.active }
     {
-        match self.inner.active {
-            Some(row) => (row as usize + 1, job_of(&self.inner.jobs, row).given),
-            None => (0, 0),
-        }
+        self.inner.active.map_or((0, 0), |row| {
+            (row as usize + 1, job_of(&self.inner.jobs, row).given)
+        })
     }
 
     // Where the run and its unit stand.

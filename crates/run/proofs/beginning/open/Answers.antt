@@ -1,4 +1,3 @@
-use Rattle.std.proofs.Common.{◌∙◌}
 use Rattle.run.specs.Views.{plan_of, inner_of}
 use Rattle.run.proofs.Begun.{may_begin, opens, begins}
 use Rattle.run.proofs.Planning.{planned}
@@ -10,15 +9,11 @@ ask_admitted-requires g c =
       may = may_begin (g.U.SpeedUnit.nature c.args.unit.now) (plan_of c.args.plan.now) c.args.starts.now (g.U.SpeedUnit.meaning c.args.unit.now) (planned c.args.plan.now) c.in_ok-check.ensures.does;
     }
 
-pub returns : goal.returns
-returns g c =
+pub returns-clause-does : goal.returns-clause-does
+returns-clause-does g c =
     let x = g.U.SpeedUnit.nature c.args.unit.now in
     let p = plan_of c.args.plan.now in
     let allowed = c.allowances-allowed in
-    let a = c.in_ok-ask_admitted.ensures in
-    let b = c.settle.ensures in
-    record {
-      does = begins x (g.U.SpeedUnit.nature c.ask_admitted.new.unit) p c.args.starts.now (g.U.SpeedUnit.meaning c.args.unit.now) (g.U.SpeedUnit.meaning c.ask_admitted.new.unit) _ _ (planned c.args.plan.now) c.in_ok-check.ensures.does a.does a.fixed
-          (opens x p c.args.starts.now (inner_of c.in_ok-inner.inner) allowed.result.raise allowed.result.wake allowed.ensures.raise allowed.ensures.wake c.in_ok-inner.ensures) b.does;
-      fixed = b.fixed ∙ a.fixed;
-    }
+    let asked = c.in_ok-ask_admitted.ensures in
+    begins x _ p c.args.starts.now (g.U.SpeedUnit.meaning c.args.unit.now) (g.U.SpeedUnit.meaning c.ask_admitted.new.unit) _ _ (planned c.args.plan.now) c.in_ok-check.ensures.does asked.does asked.fixed
+    (opens x p c.args.starts.now (inner_of c.in_ok-inner.inner) allowed.result.raise allowed.result.wake allowed.ensures.raise allowed.ensures.wake c.in_ok-inner.ensures) c.settle.ensures.does

@@ -1,25 +1,18 @@
 use Rattle.std.proofs.Common.{◌≡◌, [], vec_items, rules}
+use Rattle.units.specs.Meaning.{off}
+use Rattle.machine.specs.Machine.{numbers}
 use Rattle.run.specs.Views.{moment}
-use Rattle.run.proofs.Wholes.{operated, off_numbers, from_begin}
+use Rattle.run.proofs.Wholes.{operated, from_begin}
 use Rattle.run.proofs.operating.operate.Goals as goal
 
-pub returns : goal.returns
-returns g c =
+pub returns-clause-does : goal.returns-clause-does
+returns-clause-does g c =
     let unit = g.U.SpeedUnit in
-    let admitted = c.in-Ok-admit.ensures in
-    let begun = c.in-Ok-begin.ensures in
+    let admitted = c.in_ok-plan.ensures in
+    let begun = c.in_ok-run.ensures in
     let said = c.say_all.ensures in
     let last = moment c.say_all.new.run (unit.meaning c.say_all.new.unit) in
     let none : vec_items c.in-Ok.events ≡ [] = search rules in
-    let reached = from_begin (unit.nature c.args.unit.now) (unit.nature c.begin.new.unit) c.in-Ok-admit.plan c.in-Ok-begin.begun.0.plan c.args.starts.now (unit.meaning c.args.unit.now) (vec_items c.in-Ok.events) (vec_items c.say_all.new.events) (moment c.in-Ok-begin.begun.0 (unit.meaning c.begin.new.unit)) last
-    begun.fixed begun.does.0 none said.promise begun.does.1 in
-    let end = off_numbers c.standing.result (unit.meaning c.stand_down.new.unit) c.standing.ensures.asked c.standing.ensures.lag c.standing.ensures.rest c.stand_down.ensures.off in
-    record {
-      does = operated (unit.nature c.args.unit.now) c.args.table c.args.starts.now (unit.meaning c.args.unit.now) c.args.words.now c.in-Ok-admit.plan _ last
-          admitted.answer.1 admitted.answer.2 c.level-level.ensures.is admitted.lowest (simp none at said.said) reached end;
-      empty = search rules;
-      none = search rules;
-      off = search rules;
-      kept = tt;
-      fixed = search rules;
-    }
+    let reached = from_begin _ _ c.in_ok-plan.plan _ c.args.starts.now (unit.meaning c.args.unit.now) (vec_items c.in-Ok.events) (vec_items c.say_all.new.events) _ last begun.fixed begun.does.0 none said.promise begun.does.1 in
+    let end : c.standing.result ≡ numbers off = search rules in
+    operated _ c.args.table _ _ _ c.in_ok-plan.plan _ last admitted.answer.1 admitted.answer.2 c.level-level.ensures.is admitted.lowest (simp none at said.said) reached end
