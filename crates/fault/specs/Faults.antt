@@ -1,5 +1,5 @@
 -- A refusal with its place.
-use Rattle.std.specs.Prelude.{ℕ, List, [], ◌∷◌, ◌++◌, decimal}
+use Rattle.std.specs.Prelude.{ℕ, List, ◌∷◌, ◌++◌, codes, decimal}
 use Rattle.fault.specs.declared.Fault.{Fault}
 use Rattle.fault.specs.declared.Refusal.{Refusal}
 use Rattle.fault.specs.Numbers.{number_of, layer_of}
@@ -10,7 +10,7 @@ fault_at why line row = record { refusal = why; line = line; row = row; layer = 
 
 -- `refused`
 abbrev pub refused_word : List ℕ
-refused_word = 114 ∷ 101 ∷ 102 ∷ 117 ∷ 115 ∷ 101 ∷ 100 ∷ []
+refused_word = codes "refused"
 
 -- `refused` NUMBER LINE ROW
 abbrev pub fault_text : Fault → List ℕ
