@@ -70,9 +70,6 @@ sound_fresh f n a rows i p hi due s = record {
     v : Row
     v = fresh n r
 
-    next_is : r.next ≡ n
-    next_is = omega (arith, s.coming i hi)
-
     same : released n r ≡ v
     same = grind arith
 

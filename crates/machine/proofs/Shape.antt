@@ -73,9 +73,6 @@ shape_pop n rows e es q a valid s = record {
     in_rows : i < length rows
     in_rows = s.delayed.0.0
 
-    nothing : (row_at rows i).rem ≡ 0
-    nothing = s.delayed.0.1.0
-
     here : row_at rows' i ≡ v
     here = get_or-set_same rows i v no_row in_rows
 
