@@ -29,11 +29,6 @@ more low (y ∷ ys) x h lt le =
 pub ascending_more : (xs : List ℕ) (x : ℕ) → ascending 0 xs ≡ true → top xs < x → x ≤ 1000 → ascending 0 (xs ++ (x ∷ [])) ≡ true
 ascending_more xs x h lt le = more 0 xs x h (omega (arith, top_is xs)) le
 
--- An empty list has no last level.
-pub top_none : (xs : List ℕ) → length xs ≤ 0 → 0 ≡ top xs
-top_none [] h = refl
-top_none (x ∷ xs) h = absurd (omega arith)
-
 -- Each level is above `low`, and at most 1,000.
 in_range : (low : ℕ) (xs : List ℕ) (k : ℕ) → ascending low xs ≡ true → k < length xs → (low < get_or xs k 0) × (get_or xs k 0 ≤ 1000)
 in_range low [] k h lt = absurd (omega arith)

@@ -122,10 +122,7 @@ fn level_of(plan: &AdmittedPlan) -> u32
 fn of_row(answers: &[Answer], row: usize) -> Option<Answer>
     ensures { result ≡ answer_at answers.now row }
 {
-    if row < 1 || row > answers.len() {
-        return None;
-    }
-    Some(answers[row - 1])
+    answers.get(row.checked_sub(1)?).copied()
 }
 
 impl AdmittedPlan {
