@@ -1,7 +1,7 @@
 // Making tables, and adding to them.
-ghost use Rattle.std.specs.Prelude.{◌≡◌, ◌<◌, [], ◌∷◌, ◌++◌, map, length, IfOk, Some, None, MatchResult};
+ghost use Rattle.std.specs.Prelude.{◌≡◌, ◌<◌, [], map, IfOk, Some, None, MatchResult};
 ghost use Rattle.tasks.specs.Levels.{level_fault, top};
-ghost use Rattle.tasks.specs.Ranges.{task_refusal};
+ghost use Rattle.tasks.specs.Ranges.{one_to, task_refusal};
 ghost use Rattle.tasks.specs.Rows.{after_fault};
 ghost use Rattle.tasks.specs.Tables.{numbers, task_of, listed, levels_of, tasks_of, task_fault, Adds};
 
@@ -11,18 +11,25 @@ use crate::task::Task;
 use fault::{Fault, Refusal};
 use std::alloc::{AllocError, Global};
 
+// Whether n is from 1 to the given number.
+fn one_to(most: u32, n: u32) -> bool
+    ensures { result ≡ one_to most n }
+{
+    (1..=most).contains(&n)
+}
+
 impl Task {
     // The task with these numbers, or the first of them that is out of its range.
     pub fn new(period: u32, deadline: u32, work: u32) -> Result<Task, Refusal>
         ensures { MatchResult result (λ t. (task_refusal period deadline work ≡ None) × (task_of t ≡ numbers period deadline work)) (λ why. task_refusal period deadline work ≡ Some why) }
     {
-        if !(1..=65_535).contains(&period) {
+        if !one_to(65_535, period) {
             return Err(Refusal::BadPeriod);
         }
-        if !(1..=period).contains(&deadline) {
+        if !one_to(period, deadline) {
             return Err(Refusal::BadDeadline);
         }
-        if !(1..=16_000_000).contains(&work) {
+        if !one_to(16_000_000, work) {
             return Err(Refusal::BadWork);
         }
         Ok(Task {
