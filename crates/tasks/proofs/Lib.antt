@@ -3,4 +3,3 @@ pub mod Loads
 pub mod Rows
 pub mod OneRow
 pub mod Admitting
-pub mod AtRow

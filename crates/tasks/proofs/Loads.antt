@@ -1,12 +1,20 @@
 -- What loads ask for, one load after the other, and that this is what the rows ask for at the level.
-use Rattle.std.proofs.Common.{◌≡◌, ℕ, zero, suc, ◌+◌, ◌*◌, ◌<◌, ◌≤◌, min, List, [], ◌∷◌, length, get_or, take, drop, sym, refl, ap, ◌∙◌, ap₂, mul-le-mul, le-mul_of_pos_right, arith}
+use Rattle.std.proofs.Common.{◌≡◌, ℕ, ◌+◌, ◌*◌, ◌<◌, ◌≤◌, min, List, [], ◌∷◌, ◌++◌, length, get_or, drop, sym, refl, ap, ◌∙◌, ap₂, mul-le-mul, le-mul_of_pos_right, arith}
+use Rattle.std.proofs.lemmas.Grind.{div_ceil_times}
 use Rattle.std.proofs.lemmas.List.{drop_more}
+use Rattle.std.specs.Int.{div_ceil}
 use Rattle.theory.specs.Search.{next_point}
 use Rattle.theory.specs.Tasks as theory
 use Rattle.theory.specs.Tasks.{cdiv, demand}
-use Rattle.theory.proofs.Cdiv.{cdiv_least}
+use Rattle.theory.proofs.Cdiv.{cdiv_is, cdiv_least}
 use Rattle.tasks.specs.declared.load.Load.{Load}
 use Rattle.tasks.specs.Loads.{asked, next, LoadOf, Loads}
+
+-- The library's quotient, rounded up, is that of the theory.
+pub rounded_up : (a b : ℕ) → 1 ≤ b → div_ceil a b ≡ cdiv a b
+rounded_up a b some =
+    let within = div_ceil_times a b some in
+    sym (cdiv_is a b (div_ceil a b) some within.0 within.1)
 
 -- One load asks for at most this much up to a deadline.
 pub one_le : (l : Load) (t : ℕ) → t ≤ 65535 → l.cost * cdiv t l.period ≤ 1048560000000
@@ -26,6 +34,9 @@ module _ (ls : List Load) (i : ℕ) (l : Load) (lt : i < length ls) (is : l ≡ 
   pub next_more : (last t : ℕ) → next (drop i ls) last t ≡ next (drop (i + 1) ls) (min last (cdiv t l.period * l.period)) t
   next_more last t = ap (λ k. next k last t) from_here
 
+-- What one more load asks for.
+pub ruleset one_more = (rounded_up, one_le, asked_more, next_more)
+
 -- The loads of rows ask for what the rows do.
 pub asked_is : (f : ℕ) (ts : List theory.Task) (ls : List Load) (t : ℕ) → Loads f ts ls → asked ls t ≡ demand f ts t
 asked_is f [] [] t h = refl
@@ -42,12 +53,9 @@ next_is f (x ∷ ts) [] last t h = absurd h
 next_is f (x ∷ ts) (l ∷ ls) last t ((p, c), h) =
     next_is f ts ls (min last (cdiv t l.period * l.period)) t h ∙ ap (λ (q : ℕ). next_point ts (min last (cdiv t q * q)) t) p
 
--- Where the loads at the first n places are those of the tasks there, the front of the one list is the loads of the
--- front of the other.
-pub loads_front : (f n : ℕ) (ts : List theory.Task) (ls : List Load) (t : theory.Task) (l : Load) → n ≤ length ts → n ≤ length ls →
-    ((k : ℕ) → k < n → LoadOf f (get_or ts k t) (get_or ls k l)) → Loads f (take n ts) (take n ls)
-loads_front f zero ts ls t l ht hl h = tt
-loads_front f (suc n) [] ls t l ht hl h = absurd (omega arith)
-loads_front f (suc n) (x ∷ ts) [] t l ht hl h = absurd (omega arith)
-loads_front f (suc n) (x ∷ ts) (y ∷ ls) t l ht hl h =
-    (h 0 (omega arith), loads_front f n ts ls t l (omega arith) (omega arith) (λ k lt. h (suc k) (omega arith)))
+-- One row more has one load more.
+pub loads_more : (f : ℕ) (ts : List theory.Task) (ls : List Load) (t : theory.Task) (l : Load) → Loads f ts ls → LoadOf f t l → Loads f (ts ++ (t ∷ [])) (ls ++ (l ∷ []))
+loads_more f [] [] t l h is = (is, tt)
+loads_more f [] (k ∷ ls) t l h is = absurd h
+loads_more f (x ∷ ts) [] t l h is = absurd h
+loads_more f (x ∷ ts) (k ∷ ls) t l h is = (h.0, loads_more f ts ls t l h.1 is)

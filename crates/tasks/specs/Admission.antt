@@ -1,5 +1,5 @@
 -- Admission: what it answers, and what the answer means for the jobs.
-use Rattle.std.specs.Prelude.{◌≡◌, ℕ, ◌-◌, ◌<◌, Bool, cond, ◌&&◌, ◌||◌, ◌⊎◌, List, [], map, length, take, Some, None, Ok, Err, vec_items, vec_len, Option, Result, ◌==◌, nat_le, slice_index_or}
+use Rattle.std.specs.Prelude.{◌≡◌, ℕ, ◌-◌, ◌<◌, Bool, cond, ◌&&◌, ◌||◌, ◌⊎◌, List, [], map, length, Some, None, Ok, Err, Option, Result, ◌==◌, nat_le, slice_index_or}
 use Rattle.std.specs.Option.{ok_or}
 use Rattle.fault.specs.declared.Fault.{Fault}
 use Rattle.fault.specs.declared.Refusal.{Refusal}
@@ -21,10 +21,10 @@ abbrev pub plan_levels : AdmittedPlan → List ℕ
 plan_levels p = listed p.levels
 
 abbrev pub plan_tasks : AdmittedPlan → List Task
-plan_tasks p = map task_of (vec_items p.tasks)
+plan_tasks p = map task_of p.tasks.items
 
 abbrev pub plan_answers : AdmittedPlan → List (ℕ × ℕ)
-plan_answers p = map point_demand (take (vec_len p.tasks) p.answers)
+plan_answers p = map point_demand p.answers.items
 
 -- The answer of a row, from row 1 on; none where there is no such row.
 abbrev pub at_row : List (ℕ × ℕ) → ℕ → Option (ℕ × ℕ)

@@ -1,12 +1,14 @@
 -- Rows by their place, for the functions inside this crate.
-use Rattle.std.specs.Prelude.{ℕ, ◌+◌, ◌-◌, cond, ◌&&◌, List, length, Some, None, Option, nat_le, slice_index_or}
+use Rattle.std.specs.Prelude.{ℕ, ◌+◌, ◌-◌, cond, ◌&&◌, List, map, length, Some, None, Option, nat_le, slice_index_or}
 use Rattle.std.specs.Option.{option_map}
 use Rattle.fault.specs.declared.Fault.{Fault}
 use Rattle.fault.specs.declared.Refusal.TheVariants.{BadCount}
 use Rattle.fault.specs.Faults.{fault_at}
 use Rattle.theory.specs.Tasks.{Task}
 use Rattle.tasks.specs.declared.answer.Answer.{Answer}
+use Rattle.tasks.specs.declared.passing.Passing.{Passing}
 use Rattle.tasks.specs.Ranges.{task_refusal}
+use Rattle.tasks.specs.Tables.{point_demand}
 
 -- Why a task is not taken after so many others: it is `task_fault` of a table with so many tasks.
 abbrev pub after_fault : ℕ → ℕ → Task → Option Fault
@@ -16,3 +18,7 @@ after_fault line count t =
 -- The answer of a row, from row 1 on; none where there is no such row: `at_row` for the answers of the code.
 abbrev pub answer_at : List Answer → ℕ → Option Answer
 answer_at found row = cond (nat_le 1 row && nat_le row (length found)) (Some (slice_index_or found (row - 1) (record { point = 0; demand = 0 }))) None
+
+-- The level and the answers that the search found.
+abbrev pub level_answers : Passing → ℕ × List (ℕ × ℕ)
+level_answers f = (f.level, map point_demand f.answers.items)

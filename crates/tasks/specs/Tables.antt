@@ -1,5 +1,5 @@
 -- The tasks of a table as the theory has them, and what adding to a table does.
-use Rattle.std.specs.Prelude.{◌≡◌, ℕ, ◌+◌, cond, List, [], ◌∷◌, ◌++◌, map, length, Some, None, Ok, Err, vec_items, Option, Result, nat_le}
+use Rattle.std.specs.Prelude.{◌≡◌, ℕ, ◌+◌, cond, List, [], ◌∷◌, ◌++◌, map, length, Some, None, Ok, Err, Option, Result, nat_le}
 use Rattle.std.specs.Option.{option_map}
 use Rattle.fault.specs.declared.Fault.{Fault}
 use Rattle.fault.specs.declared.Refusal.TheVariants.{BadCount}
@@ -34,14 +34,14 @@ found_answers (Some x) = x.1
 
 -- The levels of a list, in their order.
 abbrev pub listed : LevelList → List ℕ
-listed l = vec_items l.levels
+listed l = l.levels.items
 
 -- The levels and the tasks of a table, in their order.
 abbrev pub levels_of : OpenTable → List ℕ
 levels_of t = listed t.levels
 
 abbrev pub tasks_of : OpenTable → List theory.Task
-tasks_of t = map task_of (vec_items t.tasks)
+tasks_of t = map task_of t.tasks.items
 
 -- Why a task is not taken into a table that has these tasks: the table is full, or a number is out of its range.
 -- `line` is the line of the sheet that has it, 0 outside a sheet.

@@ -1,7 +1,7 @@
 // Making tables, and adding to them.
-ghost use Rattle.std.specs.Prelude.{◌≡◌, ◌<◌, [], ◌∷◌, ◌++◌, map, length, IfOk, Some, None, MatchResult};
+ghost use Rattle.std.specs.Prelude.{◌≡◌, ◌<◌, [], map, IfOk, Some, None, MatchResult};
 ghost use Rattle.tasks.specs.Levels.{level_fault, top};
-ghost use Rattle.tasks.specs.Ranges.{task_refusal};
+ghost use Rattle.tasks.specs.Ranges.{one_to, task_refusal};
 ghost use Rattle.tasks.specs.Rows.{after_fault};
 ghost use Rattle.tasks.specs.Tables.{numbers, task_of, listed, levels_of, tasks_of, task_fault, Adds};
 
@@ -11,18 +11,25 @@ use crate::task::Task;
 use fault::{Fault, Refusal};
 use std::alloc::{AllocError, Global};
 
+// Whether n is from 1 to the given number.
+fn one_to(most: u32, n: u32) -> bool
+    ensures { result ≡ one_to most n }
+{
+    (1..=most).contains(&n)
+}
+
 impl Task {
     // The task with these numbers, or the first of them that is out of its range.
     pub fn new(period: u32, deadline: u32, work: u32) -> Result<Task, Refusal>
         ensures { MatchResult result (λ t. (task_refusal period deadline work ≡ None) × (task_of t ≡ numbers period deadline work)) (λ why. task_refusal period deadline work ≡ Some why) }
     {
-        if period < 1 || period > 65_535 {
+        if !one_to(65_535, period) {
             return Err(Refusal::BadPeriod);
         }
-        if deadline < 1 || deadline > period {
+        if !one_to(period, deadline) {
             return Err(Refusal::BadDeadline);
         }
-        if work < 1 || work > 16_000_000 {
+        if !one_to(16_000_000, work) {
             return Err(Refusal::BadWork);
         }
         Ok(Task {
@@ -47,13 +54,11 @@ impl LevelList {
     fn last(&self) -> u32
         ensures { result ≡ top (listed self.now) }
     {
-        match self.levels.last() {
-            Some(level) => *level,
-            None => 0,
-        }
+        self.levels.last().copied().unwrap_or(0)
     }
 
     // Takes a level at the end of the list. `line` is the line of the sheet that has it, 0 outside a sheet.
+    #[tactic(auto, using(crate::proofs::Levels::ascending_more))]
     pub fn add(&mut self, line: u32, level: u32) -> Result<(), Fault>
         ensures { Adds (level_fault line (listed self.old) level) (listed self.old) level (listed self.new) result }
     {
@@ -85,10 +90,7 @@ fn task_after(count: usize, line: u32, period: u32, deadline: u32, work: u32) ->
     if count >= 32 {
         return Err(Fault::new(Refusal::BadCount, line, 0));
     }
-    match Task::new(period, deadline, work) {
-        Ok(task) => Ok(task),
-        Err(refusal) => Err(Fault::new(refusal, line, count as u32 + 1)),
-    }
+    Task::new(period, deadline, work).map_err(|refusal| Fault::new(refusal, line, count as u32 + 1))
 }
 
 impl OpenTable {
@@ -110,22 +112,6 @@ impl OpenTable {
         self.levels.add(line, level)
     }
 
-    // How many tasks there are.
-    fn count(&self) -> usize
-        ensures { result ≡ length (tasks_of self.now) }
-    {
-        self.tasks.len()
-    }
-
-    // Puts a task below those that are there.
-    fn push(&mut self, task: Task)
-        requires room { length (tasks_of self.old) < 32 }
-        ensures tasks { tasks_of self.new ≡ tasks_of self.old ++ (task_of task ∷ []) }
-        ensures levels { levels_of self.new ≡ levels_of self.old }
-    {
-        self.tasks.push_reserved(task);
-    }
-
     // Takes a task of lower priority than those that are there. `line` is the line of the sheet that has it, 0 outside
     // a sheet.
     pub fn add_task(
@@ -138,8 +124,8 @@ impl OpenTable {
         ensures tasks { Adds (task_fault line (tasks_of self.old) (numbers period deadline work)) (tasks_of self.old) (numbers period deadline work) (tasks_of self.new) result }
         ensures levels { levels_of self.new ≡ levels_of self.old }
     {
-        let task = task_after(self.count(), line, period, deadline, work)?;
-        self.push(task);
+        let task = task_after(self.tasks.len(), line, period, deadline, work)?;
+        self.tasks.push_reserved(task);
         Ok(())
     }
 

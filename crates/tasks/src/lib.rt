@@ -7,6 +7,7 @@ pub mod answer;
 pub mod back;
 pub mod level_list;
 mod load;
+mod passing;
 pub mod plan;
 mod search;
 pub mod table;

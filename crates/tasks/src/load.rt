@@ -11,3 +11,15 @@ pub(crate) struct Load {
     ghost some_cost: { 1 ≤ cost },
     ghost light: { cost ≤ 16000000 },
 }
+
+// What stands at a place without a task.
+impl Default for Load {
+    ghost use Rattle.std.specs.Prelude.{◌≡◌};
+    ghost use Rattle.tasks.specs.Loads.{no_load};
+
+    ghost is_default = { λ load. load ≡ no_load };
+
+    fn default() -> Load {
+        Load { period: 1, cost: 1 }
+    }
+}
