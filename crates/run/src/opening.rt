@@ -2,9 +2,10 @@
 ghost use Rattle.std.specs.Prelude.{◌≡◌, ◌<◌, ◌≤◌, not, ◌&&◌, [], length, take, replicate, Some, None, MatchResult, OnOk, nat_le, slice_index};
 ghost use Rattle.machine.specs.Begin.{count_fault, late_fault, ready_fault, untaken_fault, early_fault, unit_fault, begin_fault, firsts, put_all};
 ghost use Rattle.machine.specs.Inner.{no_job};
-ghost use Rattle.run.specs.Views.{plan_of, inner_of};
+ghost use Rattle.run.specs.Views.{plan_of, line_of, inner_of};
 
 use crate::inner::Inner;
+use crate::line::Line;
 use crate::speed::ready;
 use fault::{Fault, Refusal};
 use machine::job::Job;
@@ -110,42 +111,33 @@ pub(crate) fn check<U: SpeedUnit>(
     check_unit(plan, starts, unit)
 }
 
-// The first release of a row: the one that is given, or the raise allowance where none is.
-fn first_release(plan: &AdmittedPlan, starts: &[u32], raise: u32, row: usize) -> u32
-    requires within { row < length (plan_of plan.now).tasks }
-    requires matching { count_fault (length (plan_of plan.now).tasks) (length starts.now) ≡ None }
-    ensures { result ≡ slice_index (firsts raise (plan_of plan.now).tasks starts.now) row }
+// The delay queue in which every row waits for its first release.
+#[tactic(auto, using(crate::proofs::Firsts::put_next, crate::proofs::Firsts::put_last))]
+fn fill(firsts: &[u32]) -> Result<Line, Fault>
+    requires few { length firsts.now ≤ 32 }
+    ensures { MatchResult result (λ d. line_of d ≡ put_all 0 firsts.now []) (λ _. ⊥) }
 {
-    if starts.is_empty() {
-        return raise;
+    let mut delay = Line::empty();
+    for (row, first) in firsts.iter().enumerate() {
+        delay.put(Entry {
+            key: *first,
+            row: row as u32,
+        })?;
     }
-    starts[row]
+    Ok(delay)
 }
 
-// Every row goes into the delay queue, with its first release. How many entries the queue then has.
-fn fill(
-    plan: &AdmittedPlan,
-    starts: &[u32],
-    raise: u32,
-    delay: &mut [Entry],
-) -> Result<usize, Fault>
-    requires room { length delay.old ≡ 32 }
+// The delay queue at begin. Where no first releases are given, each is the raise allowance.
+#[tactic(auto, using(crate::proofs::Firsts::firsts_none, crate::proofs::Firsts::firsts_given))]
+fn delay_at_begin(plan: &AdmittedPlan, starts: &[u32], raise: u32) -> Result<Line, Fault>
     requires matching { count_fault (length (plan_of plan.now).tasks) (length starts.now) ≡ None }
-    ensures { MatchResult result (λ n. (n ≤ 32) × (take n delay.new ≡ put_all 0 (firsts raise (plan_of plan.now).tasks starts.now) [])) (λ _. ⊥) }
+    ensures { MatchResult result (λ d. line_of d ≡ put_all 0 (firsts raise (plan_of plan.now).tasks starts.now) []) (λ _. ⊥) }
 {
-    let mut filled = 0usize;
-    for row in 0..row_count(plan) {
-        let key = first_release(plan, starts, raise, row);
-        queue::put(
-            delay,
-            &mut filled,
-            Entry {
-                key,
-                row: row as u32,
-            },
-        )?;
+    if starts.is_empty() {
+        let same = [raise; 32];
+        return fill(&same[..row_count(plan)]);
     }
-    Ok(filled)
+    fill(starts)
 }
 
 // The rows at begin: each waits for its first release.
@@ -153,14 +145,9 @@ pub(crate) fn rows_at_begin(plan: &AdmittedPlan, starts: &[u32], raise: u32) -> 
     requires matching { count_fault (length (plan_of plan.now).tasks) (length starts.now) ≡ None }
     ensures { MatchResult result (λ s. inner_of s ≡ record { delay = put_all 0 (firsts raise (plan_of plan.now).tasks starts.now) []; queue = []; active = None; jobs = replicate 32 no_job }) (λ _. ⊥) }
 {
-    let none = Entry { key: 0, row: 0 };
-    let mut delay = [none; 32];
-    let delayed = fill(plan, starts, raise, &mut delay)?;
     Ok(Inner {
-        delay,
-        delayed,
-        ready: [none; 32],
-        waiting: 0,
+        delay: delay_at_begin(plan, starts, raise)?,
+        ready: Line::empty(),
         active: None,
         jobs: [Job {
             due: 0,

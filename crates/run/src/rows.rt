@@ -8,7 +8,7 @@ ghost use Rattle.run.specs.Views.{inner_of};
 
 use crate::inner::Inner;
 use machine::job::Job;
-use queue::{Entry, Ranked};
+use queue::Entry;
 use tasks::task::Task;
 
 // The task of a row; past the last row, the least task that there is.
@@ -83,14 +83,14 @@ impl Inner {
     pub(crate) fn first_release(&self) -> Option<Entry>
         ensures { result ≡ first (inner_of self.now).delay }
     {
-        queue::head(&self.delay, self.delayed)
+        self.delay.head()
     }
 
     // The first row that waits for the processor.
     pub(crate) fn first_waiting(&self) -> Option<Entry>
         ensures { result ≡ first (inner_of self.now).queue }
     {
-        queue::head(&self.ready, self.waiting)
+        self.ready.head()
     }
 
     // Gives the job of a row more units. The record of that row changes, and no other.
@@ -108,14 +108,14 @@ impl Inner {
     {
         let next = job_of(&self.jobs, row).next;
         self.active = None;
-        let _ = queue::put(&mut self.delay, &mut self.delayed, Entry { key: next, row });
+        self.delay.put(Entry { key: next, row }).unwrap();
     }
 
     // The first row of the delay queue goes to the run queue with a new job, if its release is at most `tick`. Whether it did.
     fn release_first(&mut self, tasks: &[Task], tick: u32) -> bool
         requires early { tick ≤ 1000000000 }
         ensures same { released (map task_of tasks.now) tick (inner_of self.new) ≡ released (map task_of tasks.now) tick (inner_of self.old) }
-        ensures fewer { result ≡ true → self.new.delayed + 1 ≡ self.old.delayed }
+        ensures fewer { result ≡ true → self.new.delay.taken + 1 ≡ self.old.delay.taken }
         ensures none { result ≡ false → released (map task_of tasks.now) tick (inner_of self.new) ≡ inner_of self.new }
     {
         let Some(Entry { key, row }) = self.first_release() else {
@@ -124,10 +124,10 @@ impl Inner {
         if key > tick {
             return false;
         }
-        let _ = queue::take_head(&mut self.delay, &mut self.delayed);
+        let _ = self.delay.take_head();
         let job = job_from(task_of(tasks, row), key);
         write_job(&mut self.jobs, row, job);
-        let _ = queue::put(&mut self.ready, &mut self.waiting, Entry { key: 0, row });
+        self.ready.put(Entry { key: 0, row }).unwrap();
         true
     }
 
@@ -149,15 +149,15 @@ impl Inner {
         };
         match self.active {
             None => {
-                let _ = queue::take_head(&mut self.ready, &mut self.waiting);
+                let _ = self.ready.take_head();
             }
             Some(row) => {
                 let former = Entry { key: 0, row };
-                if former.upto(head) {
+                if former <= head {
                     return;
                 }
-                let _ = queue::take_head(&mut self.ready, &mut self.waiting);
-                let _ = queue::put(&mut self.ready, &mut self.waiting, former);
+                let _ = self.ready.take_head();
+                self.ready.put(former).unwrap();
             }
         }
         self.active = Some(head.row);

@@ -9,4 +9,4 @@ abbrev pub invariant-loop : goal.invariant-loop
 invariant-loop l = release_due (map task_of l.tasks) l.tick (inner_of l.self) ≡ release_due (map task_of l.tasks) l.tick (inner_of l.initial.self)
 
 abbrev pub decreases-loop : goal.decreases-loop
-decreases-loop l = l.self.delayed
+decreases-loop l = l.self.delay.taken
