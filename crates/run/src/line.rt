@@ -14,9 +14,10 @@ pub(crate) struct Line {
 }
 
 impl Line {
-    ghost use Rattle.std.specs.Prelude.{◌≡◌};
+    ghost use Rattle.std.specs.Prelude.{◌≡◌, ◌+◌, MatchOption};
     ghost use Rattle.queue.specs.Entries.{sooner};
     ghost use Rattle.queue.specs.Steps.{Puts, Takes, first};
+    ghost use Rattle.run.specs.Places.{TakesDue};
     ghost use Rattle.run.specs.Views.{line_of};
 
     // A line without entries.
@@ -48,5 +49,16 @@ impl Line {
         ensures { Takes self.old.slots self.old.taken result self.new.slots self.new.taken }
     {
         queue::take_head(&mut self.slots, &mut self.taken)
+    }
+
+    // Takes the first entry out, if its key is at most `tick`.
+    pub(crate) fn take_due(&mut self, tick: u32) -> Option<Entry>
+        ensures takes { TakesDue tick (line_of self.old) result (line_of self.new) }
+        ensures count { MatchOption result (self.new.taken ≡ self.old.taken) (λ _. self.new.taken + 1 ≡ self.old.taken) }
+    {
+        if self.head()?.key > tick {
+            return None;
+        }
+        self.take_head()
     }
 }

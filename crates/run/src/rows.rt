@@ -15,31 +15,28 @@ use tasks::task::Task;
 pub(crate) fn task_of(tasks: &[Task], row: u32) -> Task
     ensures { task_of result ≡ task_at (map task_of tasks.now) row }
 {
-    if row as usize >= tasks.len() {
-        return Task {
-            period: 1,
-            deadline: 1,
-            work: 1,
-        };
-    }
-    tasks[row as usize]
+    let least = Task {
+        period: 1,
+        deadline: 1,
+        work: 1,
+    };
+    tasks.get(row as usize).copied().unwrap_or(least)
 }
 
 // The job of a row; past the last record, one without units.
 pub(crate) fn job_of(jobs: &[Job], row: u32) -> Job
     ensures { result ≡ job_at jobs.now row }
 {
-    if row as usize >= jobs.len() {
-        return Job {
-            due: 0,
-            next: 0,
-            given: 0,
-        };
-    }
-    jobs[row as usize]
+    let none = Job {
+        due: 0,
+        next: 0,
+        given: 0,
+    };
+    jobs.get(row as usize).copied().unwrap_or(none)
 }
 
 // Writes the job of a row. No other record changes.
+#[tactic(auto, using(std::proofs::lemmas::List::set_past))]
 fn write_job(jobs: &mut [Job], row: u32, job: Job)
     ensures { jobs.new ≡ slice_set jobs.old row job }
 {
@@ -57,6 +54,7 @@ fn give(job: &mut Job, units: u32)
 }
 
 // Gives the job of a row more units: its record is lent to be changed, and no other changes.
+#[tactic(auto, using(std::proofs::lemmas::List::set_past))]
 fn give_at(jobs: &mut [Job], row: u32, units: u32)
     requires fits { (job_at jobs.old row).given + units < 2 ^ 32 }
     ensures { jobs.new ≡ slice_set jobs.old row (given_more units (job_at jobs.old row)) }
@@ -111,32 +109,16 @@ impl Inner {
         self.delay.put(Entry { key: next, row }).unwrap();
     }
 
-    // The first row of the delay queue goes to the run queue with a new job, if its release is at most `tick`. Whether it did.
-    fn release_first(&mut self, tasks: &[Task], tick: u32) -> bool
-        requires early { tick ≤ 1000000000 }
-        ensures same { released (map task_of tasks.now) tick (inner_of self.new) ≡ released (map task_of tasks.now) tick (inner_of self.old) }
-        ensures fewer { result ≡ true → self.new.delay.taken + 1 ≡ self.old.delay.taken }
-        ensures none { result ≡ false → released (map task_of tasks.now) tick (inner_of self.new) ≡ inner_of self.new }
-    {
-        let Some(Entry { key, row }) = self.first_release() else {
-            return false;
-        };
-        if key > tick {
-            return false;
-        }
-        let _ = self.delay.take_head();
-        let job = job_from(task_of(tasks, row), key);
-        write_job(&mut self.jobs, row, job);
-        self.ready.put(Entry { key: 0, row }).unwrap();
-        true
-    }
-
     // Rows of the delay queue whose release is at most `tick` go to the run queue, with new jobs.
     pub(crate) fn release_due(&mut self, tasks: &[Task], tick: u32)
         requires early { tick ≤ 1000000000 }
         ensures { inner_of self.new ≡ released (map task_of tasks.now) tick (inner_of self.old) }
     {
-        while self.release_first(tasks, tick) {}
+        while let Some(Entry { key, row }) = self.delay.take_due(tick) {
+            let job = job_from(task_of(tasks, row), key);
+            write_job(&mut self.jobs, row, job);
+            self.ready.put(Entry { key: 0, row }).unwrap();
+        }
     }
 
     // If there is no active row, or the head of the run queue goes before it, that head becomes active, and the former active row joins the run
@@ -147,18 +129,13 @@ impl Inner {
         let Some(head) = self.first_waiting() else {
             return;
         };
-        match self.active {
-            None => {
-                let _ = self.ready.take_head();
-            }
-            Some(row) => {
-                let former = Entry { key: 0, row };
-                if former <= head {
-                    return;
-                }
-                let _ = self.ready.take_head();
-                self.ready.put(former).unwrap();
-            }
+        let former = self.active.map(|row| Entry { key: 0, row });
+        if former.is_some_and(|entry| entry <= head) {
+            return;
+        }
+        let _ = self.ready.take_head();
+        if let Some(entry) = former {
+            self.ready.put(entry).unwrap();
         }
         self.active = Some(head.row);
     }
