@@ -1,7 +1,8 @@
 // Begin: the checks, and the state that a run begins in.
-ghost use Rattle.std.specs.Prelude.{◌≡◌, ◌<◌, ◌≤◌, not, ◌&&◌, [], length, take, replicate, Some, None, MatchResult, OnOk, nat_le, slice_index};
+ghost use Rattle.std.specs.Prelude.{◌≡◌, ℕ, Bool, ◌<◌, ◌≤◌, not, ◌&&◌, [], length, take, replicate, Some, None, MatchResult, OnOk, nat_le, slice_index};
 ghost use Rattle.machine.specs.Begin.{count_fault, late_fault, ready_fault, untaken_fault, early_fault, unit_fault, begin_fault, firsts, put_all};
 ghost use Rattle.machine.specs.Inner.{no_job};
+ghost use Rattle.run.specs.Checks.{RefusesFirst};
 ghost use Rattle.run.specs.Views.{plan_of, line_of, inner_of};
 
 use crate::inner::Inner;
@@ -26,23 +27,22 @@ fn check_count(plan: &AdmittedPlan, starts: &[u32]) -> Result<(), Fault>
     ensures does { MatchResult result (λ _. count_fault (length (plan_of plan.now).tasks) (length starts.now) ≡ None) (λ e. count_fault (length (plan_of plan.now).tasks) (length starts.now) ≡ Some e) }
     ensures few { OnOk result (length starts.now ≤ 32) }
 {
-    if starts.len() == 0 || starts.len() == row_count(plan) {
+    if starts.is_empty() || starts.len() == row_count(plan) {
         return Ok(());
     }
-    Err(Fault::new(Refusal::BadCount, 0, 0))
+    Err(Refusal::BadCount.into())
 }
 
-// No first release is above 65,535.
-fn check_late(starts: &[u32]) -> Result<(), Fault>
-    requires few { length starts.now ≤ 32 }
-    ensures { MatchResult result (λ _. late_fault starts.now ≡ None) (λ e. late_fault starts.now ≡ Some e) }
+// Refuses the first of some numbers that is bad, at its place. What holds of the answer is said for the test p that `bad` computes.
+fn check_each<F: Fn(&u32) -> bool>(numbers: &[u32], refusal: Refusal, bad: F) -> Result<(), Fault>
+    requires few { length numbers.now ≤ 64 }
+    requires callable { F.IsAlwaysCallable bad }
+    ensures { (p : ℕ → Bool) → ((x : _) (r : Bool) → F.post bad x r → r ≡ p x.now) → RefusesFirst refusal p numbers.now result }
 {
-    for (i, start) in starts.iter().enumerate() {
-        if *start > 65_535 {
-            return Err(Fault::new(Refusal::LateStart, 0, i as u32 + 1));
-        }
+    match numbers.iter().position(|number| bad(number)) {
+        Some(at) => Err(Fault::new(refusal, 0, at as u32 + 1)),
+        None => Ok(()),
     }
-    Ok(())
 }
 
 // The unit neither rests nor lags.
@@ -52,7 +52,7 @@ fn check_ready<U: SpeedUnit>(unit: &U) -> Result<(), Fault>
     if ready(unit) {
         return Ok(());
     }
-    Err(Fault::new(Refusal::UnitNotReady, 0, 0))
+    Err(Refusal::UnitNotReady.into())
 }
 
 // Whether a level is up to the admitted one, and the unit does not take it.
@@ -62,43 +62,8 @@ fn untaken<U: SpeedUnit>(level: u32, admitted: u32, unit: &U) -> bool
     level <= admitted && !unit.takes(level)
 }
 
-// The unit takes every listed level up to the admitted one.
-fn check_levels<U: SpeedUnit>(levels: &[u32], admitted: u32, unit: &U) -> Result<(), Fault>
-    requires few { length levels.now ≤ 64 }
-    ensures { MatchResult result (λ _. untaken_fault (U.nature unit.now) admitted levels.now ≡ None) (λ e. untaken_fault (U.nature unit.now) admitted levels.now ≡ Some e) }
-{
-    for (i, level) in levels.iter().enumerate() {
-        if untaken(*level, admitted, unit) {
-            return Err(Fault::new(Refusal::LevelNotTaken, 0, i as u32 + 1));
-        }
-    }
-    Ok(())
-}
-
-// No first release is below the raise allowance.
-fn check_early(starts: &[u32], raise: u32) -> Result<(), Fault>
-    requires few { length starts.now ≤ 32 }
-    ensures { MatchResult result (λ _. early_fault raise starts.now ≡ None) (λ e. early_fault raise starts.now ≡ Some e) }
-{
-    for (i, start) in starts.iter().enumerate() {
-        if *start < raise {
-            return Err(Fault::new(Refusal::EarlyStart, 0, i as u32 + 1));
-        }
-    }
-    Ok(())
-}
-
-// The unit is ready, takes the levels, and can raise in time for every first release.
-fn check_unit<U: SpeedUnit>(plan: &AdmittedPlan, starts: &[u32], unit: &U) -> Result<(), Fault>
-    requires few { length starts.now ≤ 32 }
-    ensures { MatchResult result (λ _. unit_fault (U.nature unit.now) (plan_of plan.now) starts.now (U.meaning unit.now) ≡ None) (λ e. unit_fault (U.nature unit.now) (plan_of plan.now) starts.now (U.meaning unit.now) ≡ Some e) }
-{
-    check_ready(unit)?;
-    check_levels(plan.levels(), plan.level(), unit)?;
-    check_early(starts, unit.allowances().raise)
-}
-
-// Why a begin is refused, if it is.
+// Why a begin is refused, if it is: for its first releases, or for its unit, which must be ready, take every listed level up to the admitted one and
+// be able to raise in time for every first release.
 pub(crate) fn check<U: SpeedUnit>(
     plan: &AdmittedPlan,
     starts: &[u32],
@@ -107,8 +72,16 @@ pub(crate) fn check<U: SpeedUnit>(
     ensures does { MatchResult result (λ _. begin_fault (U.nature unit.now) (plan_of plan.now) starts.now (U.meaning unit.now) ≡ None) (λ e. begin_fault (U.nature unit.now) (plan_of plan.now) starts.now (U.meaning unit.now) ≡ Some e) }
 {
     check_count(plan, starts)?;
-    check_late(starts)?;
-    check_unit(plan, starts, unit)
+    check_each(starts, Refusal::LateStart, |start| *start > 65_535)?;
+    check_ready(unit)?;
+    let admitted = plan.level();
+    check_each(
+        plan.levels(),
+        Refusal::LevelNotTaken,
+        |level| untaken(*level, admitted, unit),
+    )?;
+    let raise = unit.allowances().raise;
+    check_each(starts, Refusal::EarlyStart, |start| *start < raise)
 }
 
 // The delay queue in which every row waits for its first release.
