@@ -1,2 +1,3 @@
-mod Lists
+mod Orders
+mod Places
 mod Sorting

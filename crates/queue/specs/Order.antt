@@ -1,11 +1,17 @@
 -- A total order given as a test, and a list that is put in order by it.
 use Rattle.std.specs.Prelude.{◌≡◌, Bool, true, cond, ◌&&◌, ◌⊎◌, List, [], ◌∷◌}
+use Rattle.std.specs.Ordering.{is_le}
+use Rattle.std.specs.declared.cmp.Ordering.{Ordering}
 
 -- The laws of a total order: of any two one may stand before the other, and both ways only where they are equal.
 pub record Order {E : Type 0} (before : E → E → Bool) : Type 0 where
   pub total : (x y : E) → (before x y ≡ true) ⊎ (before y x ≡ true)
   pub trans : (x y z : E) → before x y ≡ true → before y z ≡ true → before x z ≡ true
   pub antisym : (x y : E) → before x y ≡ true → before y x ≡ true → x ≡ y
+
+-- Whether the first may stand before the second, by a comparison: where it is not the greater.
+abbrev pub upto : {E : Type 0} → (E → E → Ordering) → E → E → Bool
+upto cmp x y = is_le (cmp x y)
 
 -- x put after every entry at the front that may stand before it, so after its equals.
 abbrev pub ordered : {E : Type 0} → (E → E → Bool) → E → List E → List E

@@ -1,31 +1,28 @@
 // Examples of the queue, at rows by their number and at releases by tick and then row.
 #![tactic(auto)]
 
+ghost use Rattle.std.specs.Prelude.{◌≡◌};
+ghost use Rattle.queue.specs.Order.{Order, upto};
 ghost use Rattle.queue_examples.specs.Rows.{smaller};
-ghost use Rattle.std.proofs.Common.{rules};
-
-use queue::Ranked;
 
 // A row by itself: the smallest number is first.
-#[derive(Clone, Copy, PartialEq, Eq, Debug)]
+#[derive(Clone, Copy, PartialEq, Eq, PartialOrd, Ord, Debug)]
 pub struct Row {
     pub number: u8,
 }
 
-impl Ranked for Row {
-    ghost before = { smaller };
-
-    ghost order = { Prim.search rules };
-
-    fn upto(self, other: Row) -> bool {
-        self.number <= other.number
-    }
+// A theorem: what rows are compared by is the order by number, which is total.
+pub fn rows_are_ordered() -> u8
+    ensures by_number { upto ⟦<Row as Ord>⟧.cmp ≡ smaller }
+    ensures total { Order smaller }
+{
+    0
 }
 
 #[cfg(test)]
 mod tests {
     use super::*;
-    use fault::{Fault, Refusal};
+    use fault::Refusal;
     use queue::{Entry, head, put, take_head};
     use std::test::Fail;
 
@@ -100,7 +97,7 @@ mod tests {
         let mut len = 2;
         assert_eq!(rt;
             put(&mut slots, &mut len, row(2)),
-            Err(Fault::new(Refusal::QueueFull, 0, 0))
+            Err(Refusal::QueueFull.into())
         );
         assert_eq!(rt; slots, [row(1), row(3)]);
         assert_eq!(rt; len, 2);
@@ -123,7 +120,7 @@ mod tests {
         let mut len = 9;
         assert_eq!(rt;
             put(&mut slots, &mut len, release(0, 0)),
-            Err(Fault::new(Refusal::QueueFull, 0, 0))
+            Err(Refusal::QueueFull.into())
         );
         assert_eq!(rt; len, 9);
         assert_eq!(rt; head(&slots, len), Some(release(10, 4)));

@@ -1,24 +1,18 @@
--- The place of the first number of a list with a property, step by step.
-use Rattle.std.proofs.Common.{◌≡◌, ℕ, ◌+◌, ◌<◌, ◌≤◌, Bool, true, false, List, length, get_or, drop, Some, None, sym, ap, ◌∙◌, add-one}
-use Rattle.std.proofs.lemmas.List.{at_drop_more, at_drop_all}
-use Rattle.std.proofs.lemmas.Bool.{cond-true, cond-false}
+-- The place of the first number of a list with a property, from its index.
+use Rattle.std.proofs.Common.{◌≡◌, ℕ, suc, Bool, true, false, cond, List, [], ◌∷◌, Some, Option, refl, sym, ap, ◌∙◌, ◌+◌, add-one}
+use Rattle.std.proofs.lemmas.Iterator.Adapters.{position_from-zero}
+use Rattle.std.specs.List.{position, position_from}
 use Rattle.std.specs.Option.{option_map}
-use Rattle.fault.specs.declared.Fault.{Fault}
 use Rattle.machine.specs.Begin.{place_of}
 
-module _ (bad : ℕ → Bool) (why : ℕ → Fault) (xs : List ℕ) (i : ℕ) where
-  -- The number at i has the property, so that i + 1 is its place.
-  pub place_here : (e : Fault) → i < length xs → place_of bad (i + 1) (drop i xs) ≡ place_of bad 1 xs → bad (get_or xs i 0) ≡ true → e ≡ why (i + 1) →
-      option_map why (place_of bad 1 xs) ≡ Some e
-  place_here e lt inv is named =
-      ap (option_map why) (sym inv ∙ at_drop_more (place_of bad (i + 1)) xs i 0 lt ∙ cond-true (bad (get_or xs i 0)) _ _ is) ∙ ap (λ (f : Fault). Some f) (sym named)
+-- Places count from 1, and indices from 0.
+places : (bad : ℕ → Bool) (i : ℕ) (xs : List ℕ) → place_of bad (suc i) xs ≡ option_map suc (position_from bad i xs)
+places bad i [] = refl
+places bad i (x ∷ xs) =
+    elim (bad x) as (λ b. cond b (Some (suc i)) (place_of bad (suc (suc i)) xs) ≡ option_map suc (cond b (Some i) (position_from bad (i + 1) xs))) [
+      | true ↦ refl
+      | false ↦ rw add-one (places bad (suc i) xs)
+    ]
 
-  -- It has not, so that the place is further on.
-  pub place_on : i < length xs → place_of bad (i + 1) (drop i xs) ≡ place_of bad 1 xs → bad (get_or xs i 0) ≡ false → place_of bad (i + 1 + 1) (drop (i + 1) xs) ≡ place_of bad 1 xs
-  place_on lt inv is =
-      ap (λ (k : ℕ). place_of bad k (drop (i + 1) xs)) (add-one (i + 1)) ∙
-      sym (at_drop_more (place_of bad (i + 1)) xs i 0 lt ∙ cond-false (bad (get_or xs i 0)) _ _ is) ∙ inv
-
-  -- No number has it.
-  pub place_none : length xs ≤ i → place_of bad (i + 1) (drop i xs) ≡ place_of bad 1 xs → option_map why (place_of bad 1 xs) ≡ None
-  place_none le inv = ap (option_map why) (sym inv ∙ at_drop_all (place_of bad (i + 1)) xs i le)
+pub place_is : (bad : ℕ → Bool) (xs : List ℕ) (found : Option ℕ) → found ≡ position bad xs → place_of bad 1 xs ≡ option_map suc found
+place_is bad xs found is = places bad 0 xs ∙ ap (option_map suc) (sym (is ∙ position_from-zero bad xs))

@@ -1,5 +1,6 @@
 pub mod Places
 pub mod Views
+pub mod Checks
 pub mod Steps
 pub mod Promises
 pub mod Whole

@@ -1,5 +1,6 @@
 -- What the parts of a run mean: the state of the machine, and the plan that it runs.
-use Rattle.std.specs.Prelude.{take}
+use Rattle.std.specs.Prelude.{List, take}
+use Rattle.queue.specs.declared.Entry.{Entry}
 use Rattle.tasks.specs.Admission.{plan_levels, plan_tasks}
 use Rattle.tasks.specs.declared.plan.AdmittedPlan.{AdmittedPlan}
 use Rattle.units.specs.Meaning.{Meaning}
@@ -7,6 +8,7 @@ use Rattle.machine.specs.Inner as machine
 use Rattle.machine.specs.Machine.{State as MachineState, Now}
 use Rattle.machine.specs.Plans.{Plan}
 use Rattle.run.specs.declared.inner.Inner.{Inner}
+use Rattle.run.specs.declared.line.Line.{Line}
 use Rattle.run.specs.declared.run.Run.{Run}
 use Rattle.run.specs.declared.state.State.{State}
 
@@ -14,11 +16,15 @@ use Rattle.run.specs.declared.state.State.{State}
 abbrev pub plan_of : AdmittedPlan → Plan
 plan_of p = record { tasks = plan_tasks p; levels = plan_levels p; admitted = p.level }
 
--- The rows. What a queue holds is the first entries of its slots.
+-- The entries of a line: those in the first slots.
+abbrev pub line_of : Line → List Entry
+line_of l = take l.taken l.slots
+
+-- The rows.
 abbrev pub inner_of : Inner → machine.Inner
 inner_of s = record {
-  delay = take s.delayed s.delay;
-  queue = take s.waiting s.ready;
+  delay = line_of s.delay;
+  queue = line_of s.ready;
   active = s.active;
   jobs = s.jobs;
 }

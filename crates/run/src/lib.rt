@@ -4,6 +4,7 @@
 mod beginning;
 mod calls;
 mod inner;
+mod line;
 mod opening;
 mod operating;
 mod record;

@@ -1,10 +1,12 @@
 // Begin: the checks, and the state that a run begins in.
-ghost use Rattle.std.specs.Prelude.{◌≡◌, ◌<◌, ◌≤◌, not, ◌&&◌, [], length, take, replicate, Some, None, MatchResult, OnOk, nat_le, slice_index};
+ghost use Rattle.std.specs.Prelude.{◌≡◌, ℕ, Bool, ◌<◌, ◌≤◌, not, ◌&&◌, [], length, take, replicate, Some, None, MatchResult, OnOk, nat_le, slice_index};
 ghost use Rattle.machine.specs.Begin.{count_fault, late_fault, ready_fault, untaken_fault, early_fault, unit_fault, begin_fault, firsts, put_all};
 ghost use Rattle.machine.specs.Inner.{no_job};
-ghost use Rattle.run.specs.Views.{plan_of, inner_of};
+ghost use Rattle.run.specs.Checks.{RefusesFirst};
+ghost use Rattle.run.specs.Views.{plan_of, line_of, inner_of};
 
 use crate::inner::Inner;
+use crate::line::Line;
 use crate::speed::ready;
 use fault::{Fault, Refusal};
 use machine::job::Job;
@@ -25,23 +27,22 @@ fn check_count(plan: &AdmittedPlan, starts: &[u32]) -> Result<(), Fault>
     ensures does { MatchResult result (λ _. count_fault (length (plan_of plan.now).tasks) (length starts.now) ≡ None) (λ e. count_fault (length (plan_of plan.now).tasks) (length starts.now) ≡ Some e) }
     ensures few { OnOk result (length starts.now ≤ 32) }
 {
-    if starts.len() == 0 || starts.len() == row_count(plan) {
+    if starts.is_empty() || starts.len() == row_count(plan) {
         return Ok(());
     }
-    Err(Fault::new(Refusal::BadCount, 0, 0))
+    Err(Refusal::BadCount.into())
 }
 
-// No first release is above 65,535.
-fn check_late(starts: &[u32]) -> Result<(), Fault>
-    requires few { length starts.now ≤ 32 }
-    ensures { MatchResult result (λ _. late_fault starts.now ≡ None) (λ e. late_fault starts.now ≡ Some e) }
+// Refuses the first of some numbers that is bad, at its place. What holds of the answer is said for the test p that `bad` computes.
+fn check_each<F: Fn(&u32) -> bool>(numbers: &[u32], refusal: Refusal, bad: F) -> Result<(), Fault>
+    requires few { length numbers.now ≤ 64 }
+    requires callable { F.IsAlwaysCallable bad }
+    ensures { (p : ℕ → Bool) → ((x : _) (r : Bool) → F.post bad x r → r ≡ p x.now) → RefusesFirst refusal p numbers.now result }
 {
-    for (i, start) in starts.iter().enumerate() {
-        if *start > 65_535 {
-            return Err(Fault::new(Refusal::LateStart, 0, i as u32 + 1));
-        }
+    match numbers.iter().position(|number| bad(number)) {
+        Some(at) => Err(Fault::new(refusal, 0, at as u32 + 1)),
+        None => Ok(()),
     }
-    Ok(())
 }
 
 // The unit neither rests nor lags.
@@ -51,7 +52,7 @@ fn check_ready<U: SpeedUnit>(unit: &U) -> Result<(), Fault>
     if ready(unit) {
         return Ok(());
     }
-    Err(Fault::new(Refusal::UnitNotReady, 0, 0))
+    Err(Refusal::UnitNotReady.into())
 }
 
 // Whether a level is up to the admitted one, and the unit does not take it.
@@ -61,43 +62,8 @@ fn untaken<U: SpeedUnit>(level: u32, admitted: u32, unit: &U) -> bool
     level <= admitted && !unit.takes(level)
 }
 
-// The unit takes every listed level up to the admitted one.
-fn check_levels<U: SpeedUnit>(levels: &[u32], admitted: u32, unit: &U) -> Result<(), Fault>
-    requires few { length levels.now ≤ 64 }
-    ensures { MatchResult result (λ _. untaken_fault (U.nature unit.now) admitted levels.now ≡ None) (λ e. untaken_fault (U.nature unit.now) admitted levels.now ≡ Some e) }
-{
-    for (i, level) in levels.iter().enumerate() {
-        if untaken(*level, admitted, unit) {
-            return Err(Fault::new(Refusal::LevelNotTaken, 0, i as u32 + 1));
-        }
-    }
-    Ok(())
-}
-
-// No first release is below the raise allowance.
-fn check_early(starts: &[u32], raise: u32) -> Result<(), Fault>
-    requires few { length starts.now ≤ 32 }
-    ensures { MatchResult result (λ _. early_fault raise starts.now ≡ None) (λ e. early_fault raise starts.now ≡ Some e) }
-{
-    for (i, start) in starts.iter().enumerate() {
-        if *start < raise {
-            return Err(Fault::new(Refusal::EarlyStart, 0, i as u32 + 1));
-        }
-    }
-    Ok(())
-}
-
-// The unit is ready, takes the levels, and can raise in time for every first release.
-fn check_unit<U: SpeedUnit>(plan: &AdmittedPlan, starts: &[u32], unit: &U) -> Result<(), Fault>
-    requires few { length starts.now ≤ 32 }
-    ensures { MatchResult result (λ _. unit_fault (U.nature unit.now) (plan_of plan.now) starts.now (U.meaning unit.now) ≡ None) (λ e. unit_fault (U.nature unit.now) (plan_of plan.now) starts.now (U.meaning unit.now) ≡ Some e) }
-{
-    check_ready(unit)?;
-    check_levels(plan.levels(), plan.level(), unit)?;
-    check_early(starts, unit.allowances().raise)
-}
-
-// Why a begin is refused, if it is.
+// Why a begin is refused, if it is: for its first releases, or for its unit, which must be ready, take every listed level up to the admitted one and
+// be able to raise in time for every first release.
 pub(crate) fn check<U: SpeedUnit>(
     plan: &AdmittedPlan,
     starts: &[u32],
@@ -106,46 +72,45 @@ pub(crate) fn check<U: SpeedUnit>(
     ensures does { MatchResult result (λ _. begin_fault (U.nature unit.now) (plan_of plan.now) starts.now (U.meaning unit.now) ≡ None) (λ e. begin_fault (U.nature unit.now) (plan_of plan.now) starts.now (U.meaning unit.now) ≡ Some e) }
 {
     check_count(plan, starts)?;
-    check_late(starts)?;
-    check_unit(plan, starts, unit)
+    check_each(starts, Refusal::LateStart, |start| *start > 65_535)?;
+    check_ready(unit)?;
+    let admitted = plan.level();
+    check_each(
+        plan.levels(),
+        Refusal::LevelNotTaken,
+        |level| untaken(*level, admitted, unit),
+    )?;
+    let raise = unit.allowances().raise;
+    check_each(starts, Refusal::EarlyStart, |start| *start < raise)
 }
 
-// The first release of a row: the one that is given, or the raise allowance where none is.
-fn first_release(plan: &AdmittedPlan, starts: &[u32], raise: u32, row: usize) -> u32
-    requires within { row < length (plan_of plan.now).tasks }
+// The delay queue in which every row waits for its first release.
+#[tactic(auto, using(crate::proofs::Firsts::put_next, crate::proofs::Firsts::put_last))]
+fn fill(firsts: &[u32]) -> Result<Line, Fault>
+    requires few { length firsts.now ≤ 32 }
+    ensures { MatchResult result (λ d. line_of d ≡ put_all 0 firsts.now []) (λ _. ⊥) }
+{
+    let mut delay = Line::empty();
+    for (row, first) in firsts.iter().enumerate() {
+        delay.put(Entry {
+            key: *first,
+            row: row as u32,
+        })?;
+    }
+    Ok(delay)
+}
+
+// The delay queue at begin. Where no first releases are given, each is the raise allowance.
+#[tactic(auto, using(crate::proofs::Firsts::firsts_none, crate::proofs::Firsts::firsts_given))]
+fn delay_at_begin(plan: &AdmittedPlan, starts: &[u32], raise: u32) -> Result<Line, Fault>
     requires matching { count_fault (length (plan_of plan.now).tasks) (length starts.now) ≡ None }
-    ensures { result ≡ slice_index (firsts raise (plan_of plan.now).tasks starts.now) row }
+    ensures { MatchResult result (λ d. line_of d ≡ put_all 0 (firsts raise (plan_of plan.now).tasks starts.now) []) (λ _. ⊥) }
 {
     if starts.is_empty() {
-        return raise;
+        let same = [raise; 32];
+        return fill(&same[..row_count(plan)]);
     }
-    starts[row]
-}
-
-// Every row goes into the delay queue, with its first release. How many entries the queue then has.
-fn fill(
-    plan: &AdmittedPlan,
-    starts: &[u32],
-    raise: u32,
-    delay: &mut [Entry],
-) -> Result<usize, Fault>
-    requires room { length delay.old ≡ 32 }
-    requires matching { count_fault (length (plan_of plan.now).tasks) (length starts.now) ≡ None }
-    ensures { MatchResult result (λ n. (n ≤ 32) × (take n delay.new ≡ put_all 0 (firsts raise (plan_of plan.now).tasks starts.now) [])) (λ _. ⊥) }
-{
-    let mut filled = 0usize;
-    for row in 0..row_count(plan) {
-        let key = first_release(plan, starts, raise, row);
-        queue::put(
-            delay,
-            &mut filled,
-            Entry {
-                key,
-                row: row as u32,
-            },
-        )?;
-    }
-    Ok(filled)
+    fill(starts)
 }
 
 // The rows at begin: each waits for its first release.
@@ -153,14 +118,9 @@ pub(crate) fn rows_at_begin(plan: &AdmittedPlan, starts: &[u32], raise: u32) -> 
     requires matching { count_fault (length (plan_of plan.now).tasks) (length starts.now) ≡ None }
     ensures { MatchResult result (λ s. inner_of s ≡ record { delay = put_all 0 (firsts raise (plan_of plan.now).tasks starts.now) []; queue = []; active = None; jobs = replicate 32 no_job }) (λ _. ⊥) }
 {
-    let none = Entry { key: 0, row: 0 };
-    let mut delay = [none; 32];
-    let delayed = fill(plan, starts, raise, &mut delay)?;
     Ok(Inner {
-        delay,
-        delayed,
-        ready: [none; 32],
-        waiting: 0,
+        delay: delay_at_begin(plan, starts, raise)?,
+        ready: Line::empty(),
         active: None,
         jobs: [Job {
             due: 0,

@@ -8,38 +8,35 @@ ghost use Rattle.run.specs.Views.{inner_of};
 
 use crate::inner::Inner;
 use machine::job::Job;
-use queue::{Entry, Ranked};
+use queue::Entry;
 use tasks::task::Task;
 
 // The task of a row; past the last row, the least task that there is.
 pub(crate) fn task_of(tasks: &[Task], row: u32) -> Task
     ensures { task_of result ≡ task_at (map task_of tasks.now) row }
 {
-    if row as usize >= tasks.len() {
-        return Task {
-            period: 1,
-            deadline: 1,
-            work: 1,
-        };
-    }
-    tasks[row as usize]
+    let least = Task {
+        period: 1,
+        deadline: 1,
+        work: 1,
+    };
+    tasks.get(row as usize).copied().unwrap_or(least)
 }
 
 // The job of a row; past the last record, one without units.
 pub(crate) fn job_of(jobs: &[Job], row: u32) -> Job
     ensures { result ≡ job_at jobs.now row }
 {
-    if row as usize >= jobs.len() {
-        return Job {
-            due: 0,
-            next: 0,
-            given: 0,
-        };
-    }
-    jobs[row as usize]
+    let none = Job {
+        due: 0,
+        next: 0,
+        given: 0,
+    };
+    jobs.get(row as usize).copied().unwrap_or(none)
 }
 
 // Writes the job of a row. No other record changes.
+#[tactic(auto, using(std::proofs::lemmas::List::set_past))]
 fn write_job(jobs: &mut [Job], row: u32, job: Job)
     ensures { jobs.new ≡ slice_set jobs.old row job }
 {
@@ -57,6 +54,7 @@ fn give(job: &mut Job, units: u32)
 }
 
 // Gives the job of a row more units: its record is lent to be changed, and no other changes.
+#[tactic(auto, using(std::proofs::lemmas::List::set_past))]
 fn give_at(jobs: &mut [Job], row: u32, units: u32)
     requires fits { (job_at jobs.old row).given + units < 2 ^ 32 }
     ensures { jobs.new ≡ slice_set jobs.old row (given_more units (job_at jobs.old row)) }
@@ -83,14 +81,14 @@ impl Inner {
     pub(crate) fn first_release(&self) -> Option<Entry>
         ensures { result ≡ first (inner_of self.now).delay }
     {
-        queue::head(&self.delay, self.delayed)
+        self.delay.head()
     }
 
     // The first row that waits for the processor.
     pub(crate) fn first_waiting(&self) -> Option<Entry>
         ensures { result ≡ first (inner_of self.now).queue }
     {
-        queue::head(&self.ready, self.waiting)
+        self.ready.head()
     }
 
     // Gives the job of a row more units. The record of that row changes, and no other.
@@ -108,27 +106,7 @@ impl Inner {
     {
         let next = job_of(&self.jobs, row).next;
         self.active = None;
-        let _ = queue::put(&mut self.delay, &mut self.delayed, Entry { key: next, row });
-    }
-
-    // The first row of the delay queue goes to the run queue with a new job, if its release is at most `tick`. Whether it did.
-    fn release_first(&mut self, tasks: &[Task], tick: u32) -> bool
-        requires early { tick ≤ 1000000000 }
-        ensures same { released (map task_of tasks.now) tick (inner_of self.new) ≡ released (map task_of tasks.now) tick (inner_of self.old) }
-        ensures fewer { result ≡ true → self.new.delayed + 1 ≡ self.old.delayed }
-        ensures none { result ≡ false → released (map task_of tasks.now) tick (inner_of self.new) ≡ inner_of self.new }
-    {
-        let Some(Entry { key, row }) = self.first_release() else {
-            return false;
-        };
-        if key > tick {
-            return false;
-        }
-        let _ = queue::take_head(&mut self.delay, &mut self.delayed);
-        let job = job_from(task_of(tasks, row), key);
-        write_job(&mut self.jobs, row, job);
-        let _ = queue::put(&mut self.ready, &mut self.waiting, Entry { key: 0, row });
-        true
+        self.delay.put(Entry { key: next, row }).unwrap();
     }
 
     // Rows of the delay queue whose release is at most `tick` go to the run queue, with new jobs.
@@ -136,7 +114,11 @@ impl Inner {
         requires early { tick ≤ 1000000000 }
         ensures { inner_of self.new ≡ released (map task_of tasks.now) tick (inner_of self.old) }
     {
-        while self.release_first(tasks, tick) {}
+        while let Some(Entry { key, row }) = self.delay.take_due(tick) {
+            let job = job_from(task_of(tasks, row), key);
+            write_job(&mut self.jobs, row, job);
+            self.ready.put(Entry { key: 0, row }).unwrap();
+        }
     }
 
     // If there is no active row, or the head of the run queue goes before it, that head becomes active, and the former active row joins the run
@@ -147,18 +129,13 @@ impl Inner {
         let Some(head) = self.first_waiting() else {
             return;
         };
-        match self.active {
-            None => {
-                let _ = queue::take_head(&mut self.ready, &mut self.waiting);
-            }
-            Some(row) => {
-                let former = Entry { key: 0, row };
-                if former.upto(head) {
-                    return;
-                }
-                let _ = queue::take_head(&mut self.ready, &mut self.waiting);
-                let _ = queue::put(&mut self.ready, &mut self.waiting, former);
-            }
+        let former = self.active.map(|row| Entry { key: 0, row });
+        if former.is_some_and(|entry| entry <= head) {
+            return;
+        }
+        let _ = self.ready.take_head();
+        if let Some(entry) = former {
+            self.ready.put(entry).unwrap();
         }
         self.active = Some(head.row);
     }

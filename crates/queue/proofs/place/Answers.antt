@@ -1,24 +1,15 @@
-use Rattle.std.proofs.Common.{sym, ◌∙◌, arith}
-use Rattle.queue.proofs.Lists.{place_more, place_here, place_end}
-use Rattle.queue.proofs.Sorting.{sorted_ordered, shuffled_ordered}
+use Rattle.std.proofs.Common.{rules, not}
+use Rattle.std.proofs.lemmas.Iterator.{YieldsList-from_slice}
+use Rattle.std.proofs.lemmas.Iterator.Search.{position_from_yields_List}
+use Rattle.queue.specs.Order.{upto}
+use Rattle.queue.proofs.Orders.{past}
+use Rattle.queue.proofs.Places.{ordered_found}
 use Rattle.queue.proofs.place.Goals as goal
 
-pub loop-at-preserved : goal.loop-at-preserved
-loop-at-preserved g c =
-    c.loop-at.invariant ∙ place_more g.E.Ranked.before c.args.new c.args.entries.now c.loop-at.at _ c.loop-at-test.true c.index-entries-at.is (sym c.if-not-upto.ensures)
-
-pub returns-then-not-upto : goal.returns-then-not-upto
-returns-then-not-upto g c = record {
-  within = omega arith;
-  cuts = sym (c.loop-at.invariant ∙ place_here g.E.Ranked.before c.args.new c.args.entries.now c.loop-at.at _ c.loop-at-test.true c.index-entries-at.is (sym c.if-not-upto.ensures));
-  sorted = sorted_ordered g.E.Ranked.before g.met.E.Ranked.order c.args.new c.args.entries.now;
-  shuffled = shuffled_ordered g.E.Ranked.before c.args.new c.args.entries.now;
-}
-
-pub returns : goal.returns
-returns g c = record {
-  within = omega arith;
-  cuts = sym (c.loop-at.invariant ∙ place_end g.E.Ranked.before c.args.new c.args.entries.now c.loop-at.at (omega arith));
-  sorted = sorted_ordered g.E.Ranked.before g.met.E.Ranked.order c.args.new c.args.entries.now;
-  shuffled = shuffled_ordered g.E.Ranked.before c.args.new c.args.entries.now;
-}
+pub returns-clause-cuts : goal.returns-clause-cuts
+returns-clause-cuts g c =
+    let before = upto g.E.Ord.cmp in
+    ordered_found before c.args.new c.args.entries.now _ _
+    (position_from_yields_List (λ y. not (before y c.args.new)) _ _ _ c.position.ensures.ran (YieldsList-from_slice c.args.entries.now cc)
+    (λ x b q k. let is = past g.E.PartialOrd.partial_cmp g.E.Ord.cmp g.met.E.Ord.matches_partial_cmp x.now c.args.new in search (rules, is)))
+    c.unwrap_or.ensures
