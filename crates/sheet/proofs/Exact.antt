@@ -1,5 +1,5 @@
 -- What is read on a line is what is written there.
-use Rattle.std.proofs.Common.{◌≡◌, ℕ, ◌+◌, ◌<◌, ◌≤◌, true, ◌==◌, not, ltb, List, [], ◌∷◌, ◌++◌, length, get_or, take, drop, Some, Ok, decimal, Option, sym, ap, ◌∙◌, subst, arith}
+use Rattle.std.proofs.Common.{◌≡◌, ℕ, ◌+◌, ◌≤◌, true, ◌==◌, not, ltb, List, [], ◌∷◌, ◌++◌, length, get_or, take, drop, Some, Ok, decimal, Option, ap, ◌∙◌, subst, arith}
 use Rattle.std.proofs.lemmas.Fmt.{decimal-digits_value}
 use Rattle.std.proofs.lemmas.Slice.Eq.{bytes_eq-Decides}
 use Rattle.std.proofs.lemmas.List.{append_assoc}

@@ -1,5 +1,5 @@
 -- What an answer without a fault says of the parts that it comes of. Each lemma hands the parts on.
-use Rattle.std.proofs.Common.{◌≡◌, ℕ, Bool, true, false, cond, Some, None, Ok, Err, Option, Result, sym, refl, arith}
+use Rattle.std.proofs.Common.{◌≡◌, Bool, true, false, cond, Some, None, Ok, Err, Option, Result, sym, refl}
 use Rattle.std.specs.Option.{ok_or}
 use Rattle.fault.specs.declared.Fault.{Fault}
 use Rattle.sheet.specs.Sheets.{and_then, unless}

@@ -11,7 +11,7 @@ use Rattle.tasks.specs.Ranges.{task_refusal}
 use Rattle.tasks.specs.Tables.{task_fault}
 use Rattle.sheet.specs.Sheets.{and_then, unless, item_at, body, start_fault}
 use Rattle.sheet.specs.Written.{each_text}
-use Rattle.sheet.proofs.Forms.{Back}
+use Rattle.sheet.proofs.Back.{Back}
 
 -- What holds of each element, made weaker.
 pub all_weaker : {X : Type 0} {P Q : X → Type 0} → ((x : X) → P x → Q x) → (xs : List X) → All P xs → All Q xs

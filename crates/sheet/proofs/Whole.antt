@@ -12,7 +12,7 @@ use Rattle.sheet.specs.Sheets.{Contents, and_then, count_at, body, start_fault, 
 use Rattle.sheet.specs.Text.{number}
 use Rattle.sheet.specs.Written.{count_text, number_text, task_text, each_text, sheet_text, Proper}
 use Rattle.sheet.specs.declared.counts.Counts.{Counts}
-use Rattle.sheet.proofs.Forms.{Back, number_back, count_back, task_back}
+use Rattle.sheet.proofs.Back.{Back, number_back, count_back, task_back}
 use Rattle.sheet.proofs.Lengths.{sheet_short}
 use Rattle.sheet.proofs.Passing.{all_weaker, body_back, levels_follow, levels_low, tasks_follow, task_low, starts_follow}
 
