@@ -1,5 +1,5 @@
 -- A text is cut where it was joined.
-use Rattle.std.proofs.Common.{◌≡◌, ◌==◌, ℕ, ◌+◌, ◌<◌, Bool, true, cond, not, ltb, List, [], ◌∷◌, ◌++◌, length, Some, refl, ap, ◌∙◌, arith}
+use Rattle.std.proofs.Common.{◌≡◌, ◌==◌, ℕ, ◌+◌, ◌<◌, Bool, true, cond, not, nat_lt, List, [], ◌∷◌, ◌++◌, length, Some, refl, ap, ◌∙◌, arith}
 use Rattle.std.proofs.lemmas.List.{length-append, take_at, drop_at, drop_more}
 use Rattle.std.proofs.lemmas.List.Folds.{list_all-append}
 use Rattle.std.proofs.lemmas.Bool.{and_parts, and_from, cond-true, lt-ltb}
@@ -37,7 +37,7 @@ pub cut_joined : (sep : ℕ) (xs rest : List ℕ) → free sep xs ≡ true → c
 cut_joined sep xs rest h =
     let all = xs ++ (sep ∷ rest) in
     let within : length xs < length all = omega (arith, length-append xs (sep ∷ rest)) in
-    let here = ap (λ n. cut_at n all) (before sep xs rest h) ∙ cond-true (ltb (length xs) (length all)) _ _ (lt-ltb _ _ within) in
+    let here = ap (λ n. cut_at n all) (before sep xs rest h) ∙ cond-true (nat_lt (length xs) (length all)) _ _ (lt-ltb _ _ within) in
     let front = take_at xs (sep ∷ rest) (length xs) refl in
     let back = drop_at xs (sep ∷ rest) (length xs) refl in
     let more = drop_more all (length xs) 0 within in

@@ -1,5 +1,5 @@
 -- What is read on a line is what is written there.
-use Rattle.std.proofs.Common.{◌≡◌, ℕ, ◌+◌, ◌≤◌, true, ◌==◌, not, ltb, List, [], ◌∷◌, ◌++◌, length, get_or, take, drop, Some, Ok, decimal, Option, ap, ◌∙◌, subst, arith}
+use Rattle.std.proofs.Common.{◌≡◌, ℕ, ◌+◌, ◌≤◌, true, ◌==◌, not, nat_lt, List, [], ◌∷◌, ◌++◌, length, get_or, take, drop, Some, Ok, decimal, Option, ap, ◌∙◌, subst, arith}
 use Rattle.std.proofs.lemmas.Fmt.{decimal-digits_value}
 use Rattle.std.proofs.lemmas.Slice.Eq.{bytes_eq-Decides}
 use Rattle.std.proofs.lemmas.List.{append_assoc}
@@ -25,7 +25,7 @@ use Rattle.sheet.proofs.Parts.{when_some, ok_parts, ok_some}
 cut_exact : (sep : ℕ) (xs : List ℕ) {p : List ℕ × List ℕ} → cut sep xs ≡ Some p → xs ≡ p.0 ++ (sep ∷ p.1)
 cut_exact sep xs {p} h =
     let n = position_or_len (λ b. b == sep) xs in
-    let parts = cond_some (ltb n (length xs)) _ p h in
+    let parts = cond_some (nat_lt n (length xs)) _ p h in
     let within = ltb-true n (length xs) parts.0 in
     let off = prefix_len_stops (λ b. not (b == sep)) xs 0 within in
     let here : get_or xs n 0 ≡ sep = grind (arith, nat_tests) in
