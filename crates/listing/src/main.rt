@@ -2,39 +2,17 @@
 // one line that says what is wrong and where.
 #![tactic(auto)]
 
-ghost use Rattle.std.specs.Prelude.{◌≤◌, length, IfOk};
-
 use sheet::answer;
-use std::io;
 use std::io::Read;
 
 // One byte more than a sheet may have: what is longer is refused, so input without end is not waited for.
-const MOST: usize = 4097;
-
-// Fills the buffer from standard input, as far as there is input, and says how much of it is filled.
-fn fill(rt: &HostRuntime, bytes: &mut [u8]) -> io::Result<usize>
-    ensures { IfOk result (λ n. n ≤ length bytes.old) }
-{
-    let mut input = rt.stdin();
-    let mut filled = 0usize;
-    for _ in 0..MOST {
-        if filled >= bytes.len() {
-            break;
-        }
-        let count = input.read(&mut bytes[filled..])?;
-        if count == 0 {
-            break;
-        }
-        filled += count;
-    }
-    Ok(filled)
-}
+const MOST: u64 = 4097;
 
 fn run(rt: &HostRuntime) -> anyhow::Result<()> {
-    let mut bytes = [0u8; MOST];
-    let filled = fill(rt, &mut bytes)?;
-    let text = answer(rt.alloc(), &bytes[0..filled])?;
-    rt.print(text)?;
+    let heap = rt.alloc();
+    let mut bytes = Vec::new(heap);
+    rt.stdin().take(MOST).read_to_end(&mut bytes)?;
+    rt.print(answer(heap, &bytes)?)?;
     Ok(())
 }
 

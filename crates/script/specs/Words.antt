@@ -1,8 +1,10 @@
 -- What lines say to a run: each line, ended by byte 10, says a word once or some times.
 use Rattle.std.specs.Prelude.{◌≡◌, ℕ, ◌+◌, cond, ◌⊎◌, List, [], ◌∷◌, ◌++◌, length, replicate, Some, None, Ok, Err, codes, Option, Result, ◌==◌, nat_le}
+use Rattle.std.specs.Str.{bytes_eq}
 use Rattle.machine.specs.declared.word.Word.{Word}
 use Rattle.machine.specs.declared.word.Word.TheVariants.{GoOn, Ended, Standing}
-use Rattle.sheet.specs.Lines.{if_some, same}
+use Rattle.sheet.specs.Lines.{◌>>=◌}
+pub use Rattle.sheet.specs.Sheets.{and_then}
 use Rattle.sheet.specs.Text.{cut, number}
 use Rattle.script.specs.declared.said.Said.{Said}
 use Rattle.script.specs.declared.unread.Unread.{Unread}
@@ -17,17 +19,22 @@ word_text Standing = codes "standing"
 -- The word that has a text.
 abbrev pub word_of : List ℕ → Option Word
 word_of xs =
-    cond (same (word_text GoOn) xs) (Some GoOn) (
-    cond (same (word_text Ended) xs) (Some Ended) (
-    cond (same (word_text Standing) xs) (Some Standing) None))
+    cond (bytes_eq (word_text GoOn) xs) (Some GoOn) (
+    cond (bytes_eq (word_text Ended) xs) (Some Ended) (
+    cond (bytes_eq (word_text Standing) xs) (Some Standing) None))
 
 -- WORD COUNT, with a count from 1 on
 abbrev pub counted : List ℕ × List ℕ → Option Said
-counted p = if_some (word_of p.0) (λ w. if_some (number p.1) (λ n. cond (nat_le 1 n) (Some (record { word = w; times = n })) None))
+counted p = do
+  w ← word_of p.0
+  n ← number p.1
+  cond (nat_le 1 n) (Some (record { word = w; times = n })) None
 
 -- WORD
 abbrev pub once : List ℕ → Option Said
-once xs = if_some (word_of xs) (λ w. Some (record { word = w; times = 1 }))
+once xs = do
+  w ← word_of xs
+  Some (record { word = w; times = 1 })
 
 -- A line, by what stands before and after its first space.
 abbrev pub said_in : List ℕ → Option (List ℕ × List ℕ) → Option Said
@@ -61,11 +68,6 @@ with_said line words (Some s) =
 
 abbrev pub with_line : ℕ → List Word → List ℕ → Result (List Word) Unread
 with_line line words xs = with_said line words (said_of xs)
-
--- Where the words up to a line are read, what comes next.
-abbrev pub and_then : Result (List Word) Unread → (List Word → Result (List Word) Unread) → Result (List Word) Unread
-and_then (Ok words) k = k words
-and_then (Err e) k = Err e
 
 -- The words before the given line with those of the lines from it on. Nothing may stand after the last byte 10.
 abbrev pub words_from : ℕ → List Word → List (List ℕ) → List ℕ → Result (List Word) Unread

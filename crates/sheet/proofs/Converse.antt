@@ -1,5 +1,5 @@
 -- What is read without a fault is proper, and the bytes are its text.
-use Rattle.std.proofs.Common.{◌≡◌, ℕ, ◌+◌, Bool, true, eqb, ltb, ◌↔◌, List, [], ◌∷◌, ◌++◌, length, Ok, Err, Result, sym, refl, ap, ◌∙◌, subst, inl, inr, ⊎_elim, arith, MatchResult}
+use Rattle.std.proofs.Common.{◌≡◌, ℕ, ◌+◌, Bool, true, ◌==◌, nat_lt, ◌↔◌, List, [], ◌∷◌, ◌++◌, length, Ok, Err, Result, sym, refl, ap, ◌∙◌, subst, inl, inr, ⊎_elim, arith, MatchResult}
 use Rattle.std.proofs.lemmas.List.{append-nil}
 use Rattle.std.proofs.lemmas.Bool.{cond_both, eqb-true, or_cases}
 use Rattle.std.proofs.lemmas.Bool.Decides.{nat_tests}
@@ -65,7 +65,7 @@ bodies_exact n bytes text counted c h =
       some_tasks = grind (arith, nat_tests);
       few_tasks = grind (arith, nat_tests);
       in_range = follow_tasks _ k.0 [] tasks.follow;
-      starts_for = ⊎_elim (λ none. inl (starts.many ∙ eqb-true n.starts 0 none)) (λ all. inr (starts.many ∙ eqb-true n.starts n.tasks all ∙ sym tasks.many)) (or_cases (eqb n.starts 0) (eqb n.starts n.tasks) counted.starts);
+      starts_for = ⊎_elim (λ none. inl (starts.many ∙ eqb-true n.starts 0 none)) (λ all. inr (starts.many ∙ eqb-true n.starts n.tasks all ∙ sym tasks.many)) (or_cases (n.starts == 0) (n.starts == n.tasks) counted.starts);
       early = follow_starts _ s.0 [] starts.follow;
     } in
     let none = append-nil (each_text number_text s.0) in
@@ -76,7 +76,7 @@ bodies_exact n bytes text counted c h =
 pub sheet_exact : (bytes : List ℕ) (c : Contents) → read_sheet bytes ≡ Ok c → Proper c × (bytes ≡ sheet_text c)
 sheet_exact bytes c h =
     let P : Result Contents Fault → Type 0 = λ r. r ≡ Ok c → Proper c × (bytes ≡ sheet_text c) in
-    cond_both (ltb 4096 (length bytes)) _ (read_lines bytes) P (λ long h. err_ok h) (λ short h. ok_parts (counts bytes) _ h (λ n first h. bodies_exact n.0 bytes n.1 (counts_exact bytes first) c h)) h
+    cond_both (nat_lt 4096 (length bytes)) _ (read_lines bytes) P (λ long h. err_ok h) (λ short h. ok_parts (counts bytes) _ h (λ n first h. bodies_exact n.0 bytes n.1 (counts_exact bytes first) c h)) h
 
 -- So the code reads contents exactly where they are proper and the bytes are their text.
 pub read_exact : (bytes : List ℕ) (r : Result Sheet Fault) → MatchResult r (λ s. read_sheet bytes ≡ Ok (contents_of s)) (λ f. read_sheet bytes ≡ Err f) → (c : Contents) → ReadsAs r c ↔ (Proper c × (bytes ≡ sheet_text c))

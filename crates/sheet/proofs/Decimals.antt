@@ -4,10 +4,11 @@ use Rattle.std.proofs.lemmas.Fmt.{decimal_digit, decimal_nonempty, first_decimal
 use Rattle.std.proofs.lemmas.Str.Parse.{IsNumeralModel, numerals_by_fold}
 use Rattle.std.proofs.lemmas.Bool.{cases_lt}
 use Rattle.std.proofs.lemmas.Bool.Decides.{nat_tests}
-use Rattle.sheet.specs.Text.{all_digits, value, number}
+use Rattle.std.specs.Str.{all_ascii_digits}
+use Rattle.sheet.specs.Text.{value, number}
 
 -- The bytes of digits, and their value, are those of the library.
-pub own : IsNumeralModel (λ ds. all_digits ds ≡ true) value
+pub own : IsNumeralModel (λ ds. all_ascii_digits ds ≡ true) value
 own = numerals_by_fold _ (search rules) (λ a ds. fold (λ v b. v * 10 + (b - 48)) a ds) (search rules)
 
 module _ (n : ℕ) (small : n < 10 ^ 9) where
@@ -16,7 +17,7 @@ module _ (n : ℕ) (small : n < 10 ^ 9) where
   fits = omega arith
 
   -- Each byte of its text is a digit.
-  pub decimal_digits : all_digits (decimal n) ≡ true
+  pub decimal_digits : all_ascii_digits (decimal n) ≡ true
   decimal_digits = digits_decimal own n fits
 
   -- One digit, or a first digit that is not 0.

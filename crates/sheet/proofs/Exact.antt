@@ -1,52 +1,50 @@
 -- What is read on a line is what is written there.
-use Rattle.std.proofs.Common.{◌≡◌, ℕ, ◌+◌, ◌<◌, ◌≤◌, Bool, true, false, not, eqb, ltb, List, [], ◌∷◌, ◌++◌, length, get_or, take, drop, Some, Ok, decimal, Option, sym, ap, ◌∙◌, subst, one-add, arith, rules}
+use Rattle.std.proofs.Common.{◌≡◌, ℕ, ◌+◌, ◌≤◌, true, ◌==◌, not, nat_lt, List, [], ◌∷◌, ◌++◌, length, get_or, take, drop, Some, Ok, decimal, Option, ap, ◌∙◌, subst, arith}
 use Rattle.std.proofs.lemmas.Fmt.{decimal-digits_value}
-use Rattle.std.proofs.lemmas.Slice.Eq.{compares_Decides}
-use Rattle.std.proofs.lemmas.List.{append_assoc, take-append-drop, drop_more}
+use Rattle.std.proofs.lemmas.Slice.Eq.{bytes_eq-Decides}
+use Rattle.std.proofs.lemmas.List.{append_assoc}
+use Rattle.std.proofs.lemmas.List.Sums.{prefix_len_stops, split_at_first}
+use Rattle.std.proofs.lemmas.Option.{cond_some, option_and_then_some}
 use Rattle.std.proofs.lemmas.Str.Parse.{digits_value_short}
-use Rattle.std.proofs.lemmas.Bool.{cond_both, ltb-true}
+use Rattle.std.proofs.lemmas.Bool.{ltb-true}
 use Rattle.std.proofs.lemmas.Bool.Decides.{nat_tests}
 use Rattle.std.specs.Option.{ok_or}
-use Rattle.std.specs.List.{prefix_len}
+use Rattle.std.specs.List.{position_or_len}
+use Rattle.std.specs.Str.{all_ascii_digits, bytes_eq}
 use Rattle.fault.specs.Faults.{fault_at}
 use Rattle.fault.specs.declared.Refusal.TheVariants.{BadLine}
 use Rattle.tasks.specs.Tables.{numbers}
-use Rattle.sheet.specs.Lines.{same, count_line, task_line}
+use Rattle.sheet.specs.Lines.{count_line, task_line}
 use Rattle.sheet.specs.Sheets.{due_line, item_at}
-use Rattle.sheet.specs.Text.{cut, all_digits, value, number}
+use Rattle.sheet.specs.Text.{cut, value, number}
 use Rattle.sheet.specs.Written.{count_text, number_text, task_text}
 use Rattle.sheet.proofs.Decimals.{own}
-use Rattle.sheet.proofs.Parts.{some_parts, when_some, ok_parts, ok_some}
-
--- A property fails of the byte after the leading ones that have it.
-stops : (p : ℕ → Bool) (xs : List ℕ) → prefix_len p xs < length xs → p (get_or xs (prefix_len p xs) 0) ≡ false
-stops p [] h = absurd (omega arith)
-stops p (x ∷ xs) h =
-    let P : ℕ → Type 0 = λ n. n < length (x ∷ xs) → p (get_or (x ∷ xs) n 0) ≡ false in
-    cond_both (p x) (1 + prefix_len p xs) 0 P (λ on less. ap (λ n. p (get_or (x ∷ xs) n 0)) (one-add (prefix_len p xs)) ∙ stops p xs (omega arith)) (λ off less. off) h
+use Rattle.sheet.proofs.Parts.{when_some, ok_parts, ok_some}
 
 -- What is cut is joined again by the separator.
 cut_exact : (sep : ℕ) (xs : List ℕ) {p : List ℕ × List ℕ} → cut sep xs ≡ Some p → xs ≡ p.0 ++ (sep ∷ p.1)
 cut_exact sep xs {p} h =
-    let n = prefix_len (λ b. not (eqb b sep)) xs in
-    let P : List ℕ × List ℕ → Type 0 = λ p. xs ≡ p.0 ++ (sep ∷ p.1) in
-    when_some (ltb n (length xs)) _ h (λ on parts.
-    let within = ltb-true n (length xs) on in
-    let off = stops (λ b. not (eqb b sep)) xs within in
+    let n = position_or_len (λ b. b == sep) xs in
+    let parts = cond_some (nat_lt n (length xs)) _ p h in
+    let within = ltb-true n (length xs) parts.0 in
+    let off = prefix_len_stops (λ b. not (b == sep)) xs 0 within in
     let here : get_or xs n 0 ≡ sep = grind (arith, nat_tests) in
-    let same : ◌≡◌ {A = List ℕ × List ℕ} (take n xs, drop (n + 1) xs) p = cc in
-    subst P same (sym (take-append-drop n xs) ∙ ap (λ l. take n xs ++ l) (drop_more xs n 0 within ∙ ap (λ b. b ∷ drop (n + 1) xs) here)))
+    let P : List ℕ × List ℕ → Type 0 = λ p. xs ≡ p.0 ++ (sep ∷ p.1) in
+    subst P parts.1 (split_at_first (λ b. b == sep) xs 0 within ∙ ap (λ b. take n xs ++ (b ∷ drop (n + 1) xs)) here)
 
 -- A number that is read stands there in base ten.
 number_exact : (xs : List ℕ) {n : ℕ} → number xs ≡ Some n → xs ≡ decimal n
-number_exact xs h = when_some _ (Some (value xs)) h (λ on parts.
+number_exact xs {n} h =
+    let parts = cond_some _ (value xs) n h in
+    let on = parts.0 in
+    let is = parts.1 in
     let some : 1 ≤ length xs = grind (arith, nat_tests) in
     let few : length xs ≤ 9 = grind (arith, nat_tests) in
-    let digits : all_digits xs ≡ true = grind (arith, nat_tests) in
+    let digits : all_ascii_digits xs ≡ true = grind (arith, nat_tests) in
     let plain : get_or xs 0 0 ≡ 48 → length xs ≡ 1 = λ zero. grind (arith, nat_tests) in
     let low = digits_value_short own xs 9 digits few in
     let text = decimal-digits_value own xs digits (omega arith) plain (omega arith) in
-    cc)
+    cc
 
 -- The form reads an item only from its text, which ends with byte 10.
 abbrev pub Exact : {X : Type 0} → (List ℕ → Option X) → (X → List ℕ) → Type 0
@@ -58,17 +56,17 @@ exact_number xs n h = ap (λ l. l ++ (10 ∷ [])) (number_exact xs h)
 
 -- A word with a count is read only from their text.
 pub exact_count : (word : List ℕ) → Exact (count_line word) (count_text word)
-exact_count word xs n h = some_parts (cut 32 xs) _ h (λ p parts h. when_some (same word p.0) _ h (λ on h.
+exact_count word xs n h = option_and_then_some _ (cut 32 xs) n h (λ p parts h. when_some (bytes_eq p.0 word) _ h (λ on h.
     let joined = cut_exact 32 xs parts in
-    let first = (compares_Decides same (search rules) word p.0).0 on in
+    let first = (bytes_eq-Decides p.0 word).0 on in
     let count = number_exact p.1 h in
     let again = append_assoc word (32 ∷ decimal n) (10 ∷ []) in
     cc))
 
 -- The numbers of a task are read only from their text.
 pub exact_task : Exact task_line task_text
-exact_task xs t h = some_parts (cut 32 xs) _ h (λ p first h. some_parts (cut 32 p.1) _ h (λ q second h.
-    some_parts (number p.0) _ h (λ period pe h. some_parts (number q.0) _ h (λ deadline de h. some_parts (number q.1) _ h (λ work we h.
+exact_task xs t h = option_and_then_some _ (cut 32 xs) t h (λ p first h. option_and_then_some _ (cut 32 p.1) t h (λ q second h.
+    option_and_then_some _ (number p.0) t h (λ period pe h. option_and_then_some _ (number q.0) t h (λ deadline de h. option_and_then_some _ (number q.1) t h (λ work we h.
     let a = cut_exact 32 xs first in
     let b = cut_exact 32 p.1 second in
     let pd = number_exact p.0 pe in

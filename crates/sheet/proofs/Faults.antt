@@ -1,5 +1,5 @@
 -- The faults that reading meets are the refusals 1 to 10.
-use Rattle.std.proofs.Common.{◌≡◌, ℕ, zero, suc, ◌+◌, ◌≤◌, Bool, ◌&&◌, ltb, leb, List, [], ◌∷◌, ◌++◌, length, Some, None, Ok, Err, Option, Result, subst, arith}
+use Rattle.std.proofs.Common.{◌≡◌, ℕ, zero, suc, ◌+◌, ◌≤◌, Bool, ◌&&◌, nat_lt, nat_le, List, [], ◌∷◌, ◌++◌, length, Some, None, Ok, Err, Option, Result, subst, arith}
 use Rattle.std.proofs.lemmas.Bool.{cond_both}
 use Rattle.std.specs.Option.{ok_or, option_map}
 use Rattle.fault.specs.declared.Fault.{Fault}
@@ -55,18 +55,18 @@ body_low form check base low (suc n) done text = then_low (item_at form (base + 
 
 -- A level is refused for such a fault.
 level_checked : (line : ℕ) (levels : List ℕ) (level : ℕ) → NoneOrLow (level_fault line levels level)
-level_checked line levels level = cond_both (leb 64 (length levels)) _ _ NoneOrLow (λ full. omega arith) (λ room. cond_both (ltb (top levels) level && leb level 1000) _ _ NoneOrLow (λ on. tt) (λ off. omega arith))
+level_checked line levels level = cond_both (nat_le 64 (length levels)) _ _ NoneOrLow (λ full. omega arith) (λ room. cond_both (nat_lt (top levels) level && nat_le level 1000) _ _ NoneOrLow (λ on. tt) (λ off. omega arith))
 
 -- A task is refused for such a fault.
 task_checked : (line : ℕ) (tasks : List Task) (t : Task) → NoneOrLow (task_fault line tasks t)
 task_checked line tasks t =
     let P : Option Refusal → Type 0 = λ o. NoneOrLow (option_map (λ why. fault_at why line (length tasks + 1)) o) in
-    cond_both (leb 32 (length tasks)) _ _ NoneOrLow (λ full. omega arith) (λ room.
+    cond_both (nat_le 32 (length tasks)) _ _ NoneOrLow (λ full. omega arith) (λ room.
     cond_both (one_to 65535 t.period) _ _ P (λ on. cond_both (one_to t.period t.deadline) _ _ P (λ on. cond_both (one_to 16000000 t.work) _ _ P (λ on. tt) (λ off. omega arith)) (λ off. omega arith)) (λ off. omega arith))
 
 -- A first release is refused for such a fault.
 start_checked : (line : ℕ) (starts : List ℕ) (s : ℕ) → NoneOrLow (start_fault line starts s)
-start_checked line starts s = cond_both (leb s 65535) _ _ NoneOrLow (λ on. tt) (λ off. omega arith)
+start_checked line starts s = cond_both (nat_le s 65535) _ _ NoneOrLow (λ on. tt) (λ off. omega arith)
 
 -- Bytes that follow the last line are such a fault.
 end_low : (line : ℕ) (c : Contents) (text : List ℕ) → OkOrLow (at_end line c text)
@@ -84,6 +84,6 @@ bodies_low n text = then_low (body number level_fault 3 n.levels [] text) _ (bod
 -- The fault of a sheet that is not read is a refusal up to 10.
 pub fault_low : (bytes : List ℕ) {f : Fault} → read_sheet bytes ≡ Err f → number_of f.refusal ≤ 10
 fault_low bytes h =
-    let low : OkOrLow (read_sheet bytes) = cond_both (ltb 4096 (length bytes)) _ (read_lines bytes) OkOrLow (λ long. omega arith) (λ short. then_low (counts bytes) _ (counts_low bytes) (λ n. bodies_low n.0 n.1)) in
+    let low : OkOrLow (read_sheet bytes) = cond_both (nat_lt 4096 (length bytes)) _ (read_lines bytes) OkOrLow (λ long. omega arith) (λ short. then_low (counts bytes) _ (counts_low bytes) (λ n. bodies_low n.0 n.1)) in
     let P : Result Contents Fault → Type 0 = OkOrLow in
     subst P h low

@@ -1,8 +1,9 @@
 mod Digits
+mod Counting
 mod Steps
 mod Cuts
 mod Decimals
-mod Forms
+mod Back
 mod Passing
 mod Lengths
 mod Whole

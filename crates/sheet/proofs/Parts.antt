@@ -1,27 +1,17 @@
 -- What an answer without a fault says of the parts that it comes of. Each lemma hands the parts on.
-use Rattle.std.proofs.Common.{◌≡◌, ℕ, Bool, true, false, cond, Some, None, Ok, Err, Option, Result, sym, refl, arith}
+use Rattle.std.proofs.Common.{◌≡◌, Bool, true, false, cond, Some, None, Ok, Err, Option, Result, sym, refl}
 use Rattle.std.specs.Option.{ok_or}
 use Rattle.fault.specs.declared.Fault.{Fault}
-use Rattle.sheet.specs.Lines.{if_some}
 use Rattle.sheet.specs.Sheets.{and_then, unless}
-
--- Nothing is both a value and none.
-none_some : {A Z : Type 0} {x : A} → ◌≡◌ {A = Option A} None (Some x) → Z
-none_some h = let z : ◌≡◌ {A = ℕ} 0 1 = cc in absurd (omega arith)
 
 -- Nothing is both a fault and an answer without one.
 pub err_ok : {A Z : Type 0} {f : Fault} {x : A} → ◌≡◌ {A = Result A Fault} (Err f) (Ok x) → Z
-err_ok h = let z : ◌≡◌ {A = ℕ} 0 1 = cc in absurd (omega arith)
-
--- Where a value comes of another, the other is there.
-pub some_parts : {A B Z : Type 0} (o : Option A) (k : A → Option B) {y : B} → if_some o k ≡ Some y → ((x : A) → o ≡ Some x → k x ≡ Some y → Z) → Z
-some_parts None k h on = none_some h
-some_parts (Some x) k h on = on x refl h
+err_ok h = cc
 
 -- Where a value stands under a condition, the condition holds.
 pub when_some : {A Z : Type 0} (b : Bool) (o : Option A) {y : A} → cond b o None ≡ Some y → (b ≡ true → o ≡ Some y → Z) → Z
 when_some true o h on = on refl h
-when_some false o h on = none_some h
+when_some false o h on = cc
 
 -- Where what comes next has no fault, what was before has none.
 pub ok_parts : {A B Z : Type 0} (r : Result A Fault) (k : A → Result B Fault) {y : B} → and_then r k ≡ Ok y → ((x : A) → r ≡ Ok x → k x ≡ Ok y → Z) → Z

@@ -1,5 +1,5 @@
 -- The items of a proper sheet may follow one another, and are read back.
-use Rattle.std.proofs.Common.{◌≡◌, ℕ, ◌+◌, ◌<◌, ◌≤◌, true, ltb, leb, List, [], ◌∷◌, ◌++◌, length, None, Ok, Option, Result, sym, ap, ◌∙◌, arith}
+use Rattle.std.proofs.Common.{◌≡◌, ℕ, ◌+◌, ◌<◌, ◌≤◌, true, nat_lt, nat_le, List, [], ◌∷◌, ◌++◌, length, None, Ok, Option, Result, sym, ap, ◌∙◌, arith}
 use Rattle.std.proofs.lemmas.List.{append-nil, append_assoc, length_push, get_or_push}
 use Rattle.std.proofs.lemmas.Bool.{and_parts, leb-true, ltb-true}
 use Rattle.std.proofs.lemmas.Bool.Decides.{nat_tests}
@@ -11,7 +11,7 @@ use Rattle.tasks.specs.Ranges.{task_refusal}
 use Rattle.tasks.specs.Tables.{task_fault}
 use Rattle.sheet.specs.Sheets.{and_then, unless, item_at, body, start_fault}
 use Rattle.sheet.specs.Written.{each_text}
-use Rattle.sheet.proofs.Forms.{Back}
+use Rattle.sheet.proofs.Back.{Back}
 
 -- What holds of each element, made weaker.
 pub all_weaker : {X : Type 0} {P Q : X → Type 0} → ((x : X) → P x → Q x) → (xs : List X) → All P xs → All Q xs
@@ -40,8 +40,8 @@ top_push done x = get_or_push done x 0 _ (omega (arith, length_push done x))
 pub levels_follow : (base : ℕ) (xs done : List ℕ) → ascending (top done) xs ≡ true → length done + length xs ≤ 64 → Follow level_fault base done xs
 levels_follow base [] done h few = tt
 levels_follow base (x ∷ xs) done h few =
-    let a = and_parts (ltb (top done) x) _ h in
-    let b = and_parts (leb x 1000) (ascending x xs) a.1 in
+    let a = and_parts (nat_lt (top done) x) _ h in
+    let b = and_parts (nat_le x 1000) (ascending x xs) a.1 in
     let room : length done < 64 = omega arith in
     let above = ltb-true _ _ a.0 in
     let low = leb-true _ _ b.0 in
@@ -52,7 +52,7 @@ levels_follow base (x ∷ xs) done h few =
 pub levels_low : (low : ℕ) (xs : List ℕ) → ascending low xs ≡ true → All (λ x. x ≤ 1000) xs
 levels_low low [] h = tt
 levels_low low (x ∷ xs) h =
-    let b = and_parts (leb x 1000) (ascending x xs) (and_parts (ltb low x) _ h).1 in
+    let b = and_parts (nat_le x 1000) (ascending x xs) (and_parts (nat_lt low x) _ h).1 in
     (leb-true x 1000 b.0, levels_low x xs b.1)
 
 -- Tasks in their ranges.

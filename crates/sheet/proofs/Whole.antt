@@ -1,5 +1,5 @@
 -- The text of proper contents is read as those contents.
-use Rattle.std.proofs.Common.{◌≡◌, ℕ, ◌≤◌, Bool, true, ltb, List, [], ◌++◌, length, Ok, Result, sym, refl, ap, ◌∙◌, arith}
+use Rattle.std.proofs.Common.{◌≡◌, ℕ, ◌≤◌, Bool, true, nat_lt, List, [], ◌++◌, length, Ok, Result, sym, refl, ap, ◌∙◌, arith}
 use Rattle.std.proofs.lemmas.List.{append-nil}
 use Rattle.std.proofs.lemmas.Bool.{cond-true, cond-false, le-ltb}
 use Rattle.std.proofs.lemmas.Bool.Decides.{nat_tests}
@@ -12,7 +12,7 @@ use Rattle.sheet.specs.Sheets.{Contents, and_then, count_at, body, start_fault, 
 use Rattle.sheet.specs.Text.{number}
 use Rattle.sheet.specs.Written.{count_text, number_text, task_text, each_text, sheet_text, Proper}
 use Rattle.sheet.specs.declared.counts.Counts.{Counts}
-use Rattle.sheet.proofs.Forms.{Back, number_back, count_back, task_back}
+use Rattle.sheet.proofs.Back.{Back, number_back, count_back, task_back}
 use Rattle.sheet.proofs.Lengths.{sheet_short}
 use Rattle.sheet.proofs.Passing.{all_weaker, body_back, levels_follow, levels_low, tasks_follow, task_low, starts_follow}
 
@@ -55,4 +55,4 @@ module _ (c : Contents) (p : Proper c) where
 
   -- The text of proper contents gives those contents.
   pub sheet_back : read_sheet (sheet_text c) ≡ Ok c
-  sheet_back = cond-false (ltb 4096 (length (sheet_text c))) _ _ (le-ltb _ _ (sheet_short c p)) ∙ then_ok _ counts_read ∙ bodies_read
+  sheet_back = cond-false (nat_lt 4096 (length (sheet_text c))) _ _ (le-ltb _ _ (sheet_short c p)) ∙ then_ok _ counts_read ∙ bodies_read

@@ -1,20 +1,14 @@
 -- The forms of a line, without its byte 10. One space, byte 32, stands between two items.
-use Rattle.std.specs.Prelude.{ℕ, Bool, true, false, cond, ◌&&◌, List, [], ◌∷◌, Some, None, Option, ◌==◌}
+use Rattle.std.specs.Prelude.{ℕ, cond, List, [], ◌∷◌, Some, None, Option, option_and_then}
+use Rattle.std.specs.Str.{bytes_eq}
 use Rattle.theory.specs.Tasks.{Task}
 use Rattle.tasks.specs.Tables.{numbers}
 use Rattle.sheet.specs.Text.{cut, number}
 
+infixl 10 ◌>>=◌
 -- Where there is a value, what comes of it.
-abbrev pub if_some : {A B : Type 0} → Option A → (A → Option B) → Option B
-if_some None k = None
-if_some (Some x) k = k x
-
--- The same bytes.
-abbrev pub same : List ℕ → List ℕ → Bool
-same [] [] = true
-same [] (y ∷ ys) = false
-same (x ∷ xs) [] = false
-same (x ∷ xs) (y ∷ ys) = x == y && same xs ys
+abbrev pub ◌>>=◌ : {A B : Type 0} → Option A → (A → Option B) → Option B
+o >>= k = option_and_then k o
 
 -- `levels`, `tasks` and `starts`.
 abbrev pub levels_word : List ℕ
@@ -28,11 +22,16 @@ starts_word = 115 ∷ 116 ∷ 97 ∷ 114 ∷ 116 ∷ 115 ∷ []
 
 -- WORD COUNT
 abbrev pub count_line : List ℕ → List ℕ → Option ℕ
-count_line word xs = if_some (cut 32 xs) (λ p. cond (same word p.0) (number p.1) None)
+count_line word xs = do
+  p ← cut 32 xs
+  cond (bytes_eq p.0 word) (number p.1) None
 
 -- PERIOD DEADLINE WORK
 abbrev pub task_line : List ℕ → Option Task
-task_line xs =
-    if_some (cut 32 xs) (λ p. if_some (cut 32 p.1) (λ q.
-    if_some (number p.0) (λ period. if_some (number q.0) (λ deadline. if_some (number q.1) (λ work.
-    Some (numbers period deadline work))))))
+task_line xs = do
+  p ← cut 32 xs
+  q ← cut 32 p.1
+  period ← number p.0
+  deadline ← number q.0
+  work ← number q.1
+  Some (numbers period deadline work)

@@ -19,8 +19,8 @@ pub record Contents : Type 0 where
   pub tasks : List Task
   pub starts : List ℕ
 
--- Where there is no fault, what comes next.
-abbrev pub and_then : {A B : Type 0} → Result A Fault → (A → Result B Fault) → Result B Fault
+-- Where there is no error, what comes next.
+abbrev pub and_then : {A B E : Type 0} → Result A E → (A → Result B E) → Result B E
 and_then (Ok x) k = k x
 and_then (Err e) k = Err e
 

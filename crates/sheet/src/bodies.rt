@@ -1,86 +1,184 @@
-// The three bodies of a sheet, an item a line. `base` lines stand before a body, and `count` items are in it.
-ghost use Rattle.std.specs.Prelude.{◌≡◌, ◌+◌, ◌^◌, ◌<◌, ◌≤◌, [], length, vec_len, vec_capacity, OnOk};
+// The three bodies of a sheet, an item a line.
+ghost use Rattle.std.specs.Prelude.{◌≡◌, ℕ, ◌+◌, ◌^◌, ◌<◌, ◌≤◌, List, [], length, vec_capacity, Option, Some, None, MatchOption, OnOk};
+ghost use Rattle.fault.specs.declared.Fault.{Fault};
+ghost use Rattle.theory.specs.Tasks.{Task};
 ghost use Rattle.tasks.specs.Levels.{level_fault};
-ghost use Rattle.tasks.specs.Tables.{levels_of, tasks_of, task_fault};
-ghost use Rattle.sheet.specs.Lines.{task_line};
+ghost use Rattle.tasks.specs.Tables.{numbers, levels_of, tasks_of, task_fault, Adds};
+ghost use Rattle.sheet.specs.Lines.{task_line as task_form};
 ghost use Rattle.sheet.specs.Reads.{Reads};
 ghost use Rattle.sheet.specs.Sheets.{body, start_fault};
-ghost use Rattle.sheet.specs.Text.{number};
+ghost use Rattle.sheet.specs.Text.{number as number_of};
 
-use crate::items::{number_at, task_at};
+use crate::forms::{TaskNumbers, task_line};
+use crate::lines::Lines;
+use crate::text::number;
 use fault::{Fault, Refusal};
 use tasks::table::OpenTable;
 
-// Reads levels into a table that has none, and gives the text after them.
-pub(crate) fn read_levels<'a>(
-    table: &mut OpenTable,
-    base: u32,
-    count: u32,
-    text: &'a [u8],
-) -> Result<&'a [u8], Fault>
-    requires few { base + count < 2 ^ 32 }
-    requires empty { length (levels_of table.old) ≡ 0 }
-    ensures levels { Reads (body number level_fault base count [] text.now) (levels_of table.new) result }
-    ensures tasks { tasks_of table.new ≡ tasks_of table.old }
-{
-    let mut text = text;
-    for i in 0..count {
-        let row = i + 1;
-        let line = base + row;
-        let (level, rest) = number_at(text, line, row)?;
-        table.add_level(line, level)?;
-        text = rest;
-    }
-    Ok(text)
+// A body: the form of a line with an item, what takes the items, and which of them may follow those before it.
+pub(crate) trait Body {
+    // What a line says.
+    type Item;
+
+    // What takes the items.
+    type Held;
+
+    // An item as the definitions have it.
+    ghost Meant: { Type 0 };
+
+    ghost meant: { Self.Item → Meant };
+
+    // The form of a line.
+    ghost form: { List ℕ → Option Meant };
+
+    // Why an item at a line of the sheet may not follow others.
+    ghost check: { ℕ → List Meant → Meant → Option Fault };
+
+    // The items that are there.
+    ghost items: { Self.Held → List Meant };
+
+    // How many of them there is room for.
+    ghost most: { Self.Held → ℕ };
+
+    // What else is there.
+    ghost Else: { Type 0 };
+
+    ghost others: { Self.Held → Else };
+
+    // The item of a line.
+    fn read(line: &[u8]) -> Option<Self::Item>
+        ensures { MatchOption result (form line.now ≡ None) (λ x. form line.now ≡ Some (meant x)) };
+
+    // Takes an item at the end of those that are there, in the row after theirs.
+    fn take(held: &mut Self::Held, line: u32, row: u32, item: Self::Item) -> Result<(), Fault>
+        requires next { row ≡ length (items held.old) + 1 }
+        requires room { row ≤ most held.old }
+        ensures items { Adds (check line (items held.old) (meant item)) (items held.old) (meant item) (items held.new) result }
+        ensures most { most held.new ≡ most held.old }
+        ensures others { others held.new ≡ others held.old };
 }
 
-// Reads tasks into a table that has none, and gives the text after them.
-pub(crate) fn read_tasks<'a>(
-    table: &mut OpenTable,
-    base: u32,
-    count: u32,
-    text: &'a [u8],
-) -> Result<&'a [u8], Fault>
-    requires few { base + count < 2 ^ 32 }
-    requires empty { length (tasks_of table.old) ≡ 0 }
-    ensures tasks { Reads (body task_line task_fault base count [] text.now) (tasks_of table.new) result }
-    ensures all { OnOk result (length (tasks_of table.new) ≡ count) }
-    ensures levels { levels_of table.new ≡ levels_of table.old }
-{
-    let mut text = text;
-    for i in 0..count {
-        let row = i + 1;
-        let line = base + row;
-        let ((period, deadline, work), rest) = task_at(text, line, row)?;
-        table.add_task(line, period, deadline, work)?;
-        text = rest;
+// The levels of a table.
+pub(crate) struct Levels;
+
+impl Body for Levels {
+    type Item = u32;
+
+    type Held = OpenTable;
+
+    ghost Meant = { ℕ };
+
+    ghost meant = { λ n. n };
+
+    ghost form = { number_of };
+
+    ghost check = { level_fault };
+
+    ghost items = { levels_of };
+
+    ghost most = { λ _. 64 };
+
+    ghost Else = { List Task };
+
+    ghost others = { tasks_of };
+
+    fn read(line: &[u8]) -> Option<u32> {
+        number(line)
     }
-    Ok(text)
+
+    fn take(table: &mut OpenTable, line: u32, _row: u32, level: u32) -> Result<(), Fault> {
+        table.add_level(line, level)
+    }
 }
 
-// Reads first releases into a list that has none and has room for them, and gives the text after them.
-pub(crate) fn read_starts<'a>(
-    starts: &mut Vec<u32>,
-    base: u32,
-    count: u32,
-    text: &'a [u8],
-) -> Result<&'a [u8], Fault>
-    requires few { base + count < 2 ^ 32 }
-    requires empty { vec_len starts.old ≡ 0 }
-    requires room { count ≤ vec_capacity starts.old }
-    ensures starts { Reads (body number start_fault base count [] text.now) starts.new.items result }
-    ensures all { OnOk result (vec_len starts.new ≡ count) }
-{
-    let mut text = text;
-    for i in 0..count {
-        let row = i + 1;
-        let line = base + row;
-        let (start, rest) = number_at(text, line, row)?;
+// The tasks of a table.
+pub(crate) struct Tasks;
+
+impl Body for Tasks {
+    type Item = TaskNumbers;
+
+    type Held = OpenTable;
+
+    ghost Meant = { Task };
+
+    ghost meant = { λ t. numbers t.period t.deadline t.work };
+
+    ghost form = { task_form };
+
+    ghost check = { task_fault };
+
+    ghost items = { tasks_of };
+
+    ghost most = { λ _. 32 };
+
+    ghost Else = { List ℕ };
+
+    ghost others = { levels_of };
+
+    fn read(line: &[u8]) -> Option<TaskNumbers> {
+        task_line(line)
+    }
+
+    fn take(table: &mut OpenTable, line: u32, _row: u32, task: TaskNumbers) -> Result<(), Fault> {
+        table.add_task(line, task.period, task.deadline, task.work)
+    }
+}
+
+// The first releases.
+pub(crate) struct Starts;
+
+impl Body for Starts {
+    type Item = u32;
+
+    type Held = Vec<u32>;
+
+    ghost Meant = { ℕ };
+
+    ghost meant = { λ n. n };
+
+    ghost form = { number_of };
+
+    ghost check = { start_fault };
+
+    ghost items = { λ starts. starts.items };
+
+    ghost most = { λ starts. vec_capacity starts };
+
+    ghost Else = { Unit {0} };
+
+    ghost others = { λ _. tt };
+
+    fn read(line: &[u8]) -> Option<u32> {
+        number(line)
+    }
+
+    fn take(starts: &mut Vec<u32>, line: u32, row: u32, start: u32) -> Result<(), Fault> {
         if start > 65_535 {
             return Err(Fault::new(Refusal::LateStart, line, row));
         }
         starts.push_reserved(start);
-        text = rest;
+        Ok(())
     }
-    Ok(text)
+}
+
+// Reads a body into what has none of its items yet.
+pub(crate) fn read_body<B: Body>(
+    held: &mut B::Held,
+    count: u32,
+    lines: &mut Lines,
+) -> Result<(), Fault>
+    requires few { lines.old.line + count + 1 < 2 ^ 32 }
+    requires empty { length (B.items held.old) ≡ 0 }
+    requires room { count ≤ B.most held.old }
+    ensures items { Reads (body B.form B.check lines.old.line count [] lines.old.text.now) (B.items held.new) lines.new.text.now result }
+    ensures all { OnOk result (length (B.items held.new) ≡ count) }
+    ensures line { OnOk result (lines.new.line ≡ lines.old.line + count) }
+    ensures others { B.others held.new ≡ B.others held.old }
+{
+    for row in 1..=count {
+        let due = lines.due(row)?;
+        let item = B::read(due).ok_or(Fault::new(Refusal::BadLine, lines.line, row))?;
+        B::take(held, lines.line, row, item)?;
+    }
+    Ok(())
 }

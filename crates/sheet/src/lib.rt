@@ -3,7 +3,7 @@
 
 mod bodies;
 mod counts;
-mod items;
+mod forms;
 mod lines;
 mod reading;
 mod reply;

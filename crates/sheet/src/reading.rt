@@ -4,15 +4,13 @@ ghost use Rattle.sheet.specs.Contents.{contents_of, ReadsAs};
 ghost use Rattle.sheet.specs.Sheets.{Contents, each_or_none, bodies, read_sheet};
 ghost use Rattle.sheet.specs.Written.{Proper, sheet_text};
 
-use crate::bodies::{read_levels, read_starts, read_tasks};
+use crate::bodies::{Levels, Starts, Tasks, read_body};
 use crate::counts::{Counts, read_counts};
+use crate::lines::Lines;
 use crate::sheet::{BlankSheet, Sheet};
 use fault::{Fault, Refusal};
 use std::alloc::{AllocError, Global};
 use tasks::table::OpenTable;
-
-// The lines with the counts.
-const COUNT_LINES: u32 = 3;
 
 impl BlankSheet {
     // Room for a sheet; the only call on a sheet that can find no memory.
@@ -32,27 +30,31 @@ impl BlankSheet {
         if bytes.len() > 4096 {
             return Err(Fault::new(Refusal::SheetTooLong, 0, 0));
         }
-        let (counts, text) = read_counts(bytes)?;
-        self.read_bodies(counts, text)
+        let mut lines = Lines {
+            text: bytes,
+            line: 0,
+        };
+        let counts = read_counts(&mut lines)?;
+        self.read_bodies(counts, lines)
     }
 
     // The lines after the counts.
-    fn read_bodies(self, counts: Counts, text: &[u8]) -> Result<Sheet, Fault>
+    fn read_bodies(self, counts: Counts, lines: Lines) -> Result<Sheet, Fault>
+        requires after { lines.line ≡ 3 }
         requires few { (counts.levels ≤ 64) × (counts.tasks ≤ 32) × (counts.starts ≤ 32) }
         requires matching { each_or_none counts.tasks counts.starts ≡ true }
-        ensures { MatchResult result (λ s. bodies counts text.now ≡ Ok (contents_of s)) (λ f. bodies counts text.now ≡ Err f) }
+        ensures { MatchResult result (λ s. bodies counts lines.entry.text.now ≡ Ok (contents_of s)) (λ f. bodies counts lines.entry.text.now ≡ Err f) }
     {
         let BlankSheet {
             mut table,
             mut starts,
         } = self;
-        let tasks_base = COUNT_LINES + counts.levels;
-        let starts_base = tasks_base + counts.tasks;
-        let text = read_levels(&mut table, COUNT_LINES, counts.levels, text)?;
-        let text = read_tasks(&mut table, tasks_base, counts.tasks, text)?;
-        let text = read_starts(&mut starts, starts_base, counts.starts, text)?;
-        if !text.is_empty() {
-            return Err(Fault::new(Refusal::BytesFollow, starts_base + counts.starts + 1, 0));
+        let mut lines = lines;
+        read_body::<Levels>(&mut table, counts.levels, &mut lines)?;
+        read_body::<Tasks>(&mut table, counts.tasks, &mut lines)?;
+        read_body::<Starts>(&mut starts, counts.starts, &mut lines)?;
+        if !lines.text.is_empty() {
+            return Err(Fault::new(Refusal::BytesFollow, lines.line + 1, 0));
         }
         Ok(Sheet { table, starts })
     }

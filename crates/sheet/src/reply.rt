@@ -18,10 +18,7 @@ fn plan_of(blank: BlankSheet, bytes: &[u8]) -> Result<AdmittedPlan, Fault>
     ensures promise { MatchResult result (λ p. AnswersSheet bytes.now (listing_text p.level (plan_answers p))) (λ f. AnswersSheet bytes.now (refusal_text f)) }
 {
     let sheet = blank.read(bytes)?;
-    match sheet.table.admit() {
-        Ok(plan) => Ok(plan),
-        Err(back) => Err(back.fault),
-    }
+    Ok(sheet.table.admit()?)
 }
 
 // The listing of a sheet's table at the lowest level that keeps every deadline, or the line of the first refusal: every

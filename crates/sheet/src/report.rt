@@ -11,8 +11,7 @@ use tasks::answer::Answer;
 fn add_row(text: &mut String, row: usize, answer: Answer) -> Result<(), AllocError>
     ensures { OnOk result (string_bytes text.new ≡ string_bytes text.old ++ row_text row (point_demand answer)) }
 {
-    let point = answer.point;
-    let demand = answer.demand;
+    let Answer { point, demand } = answer;
     writeln!(text, "{row} {point} {demand}")
 }
 

@@ -8,17 +8,15 @@ use sheet::answer;
 use std::{env, fs};
 
 // The worked cases, computed from the definitions.
-fn worked() -> u8
+fn worked()
     ensures { WorkedCases }
 {
-    0
 }
 
 // A worked run, computed from the definitions.
-fn worked_run() -> u8
+fn worked_run()
     ensures { EndedAtOnce }
 {
-    0
 }
 
 fn show(rt: &HostRuntime, name: &str) -> anyhow::Result<()> {
@@ -37,7 +35,7 @@ fn run(rt: &HostRuntime) -> anyhow::Result<()> {
 }
 
 fn main(rt: HostRuntime) -> anyhow::Result<()> {
-    let _ = worked();
-    let _ = worked_run();
+    worked();
+    worked_run();
     run(&rt)
 }

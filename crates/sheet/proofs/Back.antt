@@ -6,7 +6,8 @@ use Rattle.fault.specs.Faults.{fault_at}
 use Rattle.fault.specs.declared.Refusal.TheVariants.{EndsEarly, BadLine}
 use Rattle.theory.specs.Tasks.{Task}
 use Rattle.tasks.specs.Tables.{numbers}
-use Rattle.sheet.specs.Lines.{same, count_line, task_line}
+use Rattle.std.specs.Str.{bytes_eq}
+use Rattle.sheet.specs.Lines.{count_line, task_line}
 use Rattle.sheet.specs.Sheets.{and_then, item_at}
 use Rattle.sheet.specs.Text.{cut, number}
 use Rattle.sheet.specs.Written.{count_text, number_text, task_text}
@@ -36,7 +37,7 @@ number_back n small =
     back number number_text n (decimal n) (λ rest. append_assoc (decimal n) (10 ∷ []) rest) (one_line n small) (number_decimal n small)
 
 -- A word with a count.
-pub count_back : (word : List ℕ) (n : ℕ) → n < 10 ^ 9 → free 10 word ≡ true → free 32 word ≡ true → same word word ≡ true → Back (count_line word) (count_text word) n
+pub count_back : (word : List ℕ) (n : ℕ) → n < 10 ^ 9 → free 10 word ≡ true → free 32 word ≡ true → bytes_eq word word ≡ true → Back (count_line word) (count_text word) n
 count_back word n small ends word_ends known =
     let first = cut_joined 32 word (decimal n) word_ends in
     let value = number_decimal n small in
