@@ -6,7 +6,7 @@ use Rattle.std.specs.Int.{div_ceil}
 use Rattle.theory.specs.Search.{next_point}
 use Rattle.theory.specs.Tasks as theory
 use Rattle.theory.specs.Tasks.{cdiv, demand}
-use Rattle.theory.proofs.Cdiv.{cdiv_is, cdiv_least}
+use Rattle.theory.proofs.Cdiv.{cdiv_least}
 use Rattle.tasks.specs.declared.load.Load.{Load}
 use Rattle.tasks.specs.Loads.{asked, next, LoadOf, Loads}
 
@@ -14,7 +14,7 @@ use Rattle.tasks.specs.Loads.{asked, next, LoadOf, Loads}
 pub rounded_up : (a b : ℕ) → 1 ≤ b → div_ceil a b ≡ cdiv a b
 rounded_up a b some =
     let within = div_ceil_times a b some in
-    sym (cdiv_is a b (div_ceil a b) some within.0 within.1)
+    grind arith
 
 -- One load asks for at most this much up to a deadline.
 pub one_le : (l : Load) (t : ℕ) → t ≤ 65535 → l.cost * cdiv t l.period ≤ 1048560000000
