@@ -18,8 +18,7 @@ use units::unit::SpeedUnit;
 pub(crate) fn ready<U: SpeedUnit>(unit: &U) -> bool
     ensures { result ≡ is_ready (U.meaning unit.now) }
 {
-    let at = unit.standing();
-    at.rest == 0 && at.lag == 0
+    unit.standing().is_ready()
 }
 
 // Asks for a level, if the unit would take it. Whether it was asked.
