@@ -1,5 +1,5 @@
 -- What the type of an admitted plan says of it.
-use Rattle.std.proofs.Common.{is_some, vec_items, ap, arith}
+use Rattle.std.proofs.Common.{is_some, ap, arith}
 use Rattle.std.proofs.lemmas.List.{length-map}
 use Rattle.tasks.proofs.Admitting.{the_found, in_time}
 use Rattle.tasks.proofs.OneRow.{valid_tasks}
@@ -22,7 +22,7 @@ planned p =
     let low = lowest_of p in
     record {
       valid = valid_tasks _;
-      few = omega (arith, length-map (vec_items p.tasks) task_of, p.tasks.ok.0, p.few);
+      few = omega (arith, length-map p.tasks.items task_of, p.tasks.ok.0, p.few);
       level = p.some;
       listed = low.is_listed;
       fits = every_row_fits p.level (plan_tasks p) p.some (valid_tasks _) (ap is_some low.passes);

@@ -1,5 +1,5 @@
 -- A whole run, put together.
-use Rattle.std.proofs.Common.{◌≡◌, ℕ, List, [], ◌∷◌, map, reverse, vec_items}
+use Rattle.std.proofs.Common.{◌≡◌, ℕ, List, [], ◌∷◌, map, reverse}
 use Rattle.tasks.specs.Admission.{LowestInTime, plan_levels, plan_tasks, plan_answers}
 use Rattle.tasks.specs.Tables.{levels_of, tasks_of}
 use Rattle.tasks.specs.declared.plan.AdmittedPlan.{AdmittedPlan}
@@ -31,7 +31,7 @@ began_accepted x p starts u (e ∷ h) now (before, r, said) = began_accepted x p
 -- A table that is admitted, and a history that is reached from the begin of its plan, are a whole run.
 pub operated : (x : Nature) (t : OpenTable) (starts : List ℕ) (u : Meaning) (words : List Word) (plan : AdmittedPlan) (r : Record) (last : Now) →
     plan_levels plan ≡ levels_of t → plan_tasks plan ≡ tasks_of t → r.level ≡ plan.level → LowestInTime (levels_of t) (tasks_of t) plan.level (plan_answers plan) →
-    map (λ e. e.word) (vec_items r.events) ≡ words → Reached x (plan_of plan) starts u (history r) last → r.end ≡ numbers off → Operated x t starts u words r
+    map (λ e. e.word) r.events.items ≡ words → Reached x (plan_of plan) starts u (history r) last → r.end ≡ numbers off → Operated x t starts u words r
 operated x t starts u words plan r last levels tasks level low said reached end =
     let same : plan_of plan ≡ plan_at t r.level = simp (levels, tasks, level) in
     let here = rw same at reached in

@@ -1,5 +1,5 @@
 -- A whole run: from a table to its record.
-use Rattle.std.specs.Prelude.{◌≡◌, ℕ, ◌↔◌, List, [], ◌∷◌, map, reverse, Some, None, Ok, Err, vec_items, Result}
+use Rattle.std.specs.Prelude.{◌≡◌, ℕ, ◌↔◌, List, [], ◌∷◌, map, reverse, Some, None, Ok, Err, Result}
 use Rattle.fault.specs.declared.Refusal.{Refusal}
 use Rattle.tasks.specs.Admission.{LowestInTime, admission, plan_levels, plan_tasks, plan_answers}
 use Rattle.tasks.specs.Tables.{levels_of, tasks_of}
@@ -19,7 +19,7 @@ use Rattle.run.specs.Views.{plan_of}
 
 -- The history of a record: its events, the latest first.
 abbrev pub history : Record → History
-history r = reverse (vec_items r.events)
+history r = reverse r.events.items
 
 -- P holds after begin, and after every word of a history.
 abbrev pub Throughout : (History → Type 0) → History → Type 0
@@ -36,7 +36,7 @@ plan_at t f = record { tasks = tasks_of t; levels = levels_of t; admitted = f }
 pub record Operated (x : Nature) (t : OpenTable) (starts : List ℕ) (u : Meaning) (words : List Word) (r : Record) : Type 0 where
   pub lowest : (found : List (ℕ × ℕ)) × LowestInTime (levels_of t) (tasks_of t) r.level found
   pub accepted : begin_fault x (plan_at t r.level) starts u ≡ None
-  pub said : map (λ e. e.word) (vec_items r.events) ≡ words
+  pub said : map (λ e. e.word) r.events.items ≡ words
   pub reached : (last : Now) × Reached x (plan_at t r.level) starts u (history r) last
   pub on_time : Throughout (NoJobLate x (plan_at t r.level) starts) (history r)
   pub any_other : (h : History) (now : Now) → Reached x (plan_at t r.level) starts u h now → Lawful x (plan_at t r.level) starts h now

@@ -6,6 +6,7 @@ ghost use Rattle.machine.specs.declared.word.Word.TheVariants.{GoOn, Ended, Stan
 ghost use Rattle.machine.specs.Reached.{Said};
 ghost use Rattle.machine.specs.Replies.{reply_of};
 ghost use Rattle.run.specs.Promises.{GoesOn};
+ghost use Rattle.run.specs.Steps.{tick_word};
 ghost use Rattle.run.specs.Views.{plan_in, moment};
 
 use crate::run::{Run, Slip};
@@ -14,6 +15,17 @@ use machine::word::{Report, RunStanding};
 use units::unit::SpeedUnit;
 
 impl Run {
+    // What go-on and ended share: a tick, in which ended was said or not.
+    fn tick<U: SpeedUnit>(&mut self, said: bool, unit: &mut U) -> Result<Report, Fault>
+        ensures does { Said (U.nature unit.old) (plan_in self.old) (tick_word said) (moment self.old (U.meaning unit.old)) (reply_of result) (moment self.new (U.meaning unit.new)) }
+        ensures promise { GoesOn (U.nature unit.old) (plan_in self.old) (tick_word said) (moment self.old (U.meaning unit.old)) (reply_of result) (moment self.new (U.meaning unit.new)) }
+        ensures plan { self.new.plan ≡ self.old.plan }
+        ensures fixed { U.nature unit.new ≡ U.nature unit.old }
+        ensures kept { OnErr result ((self.new ≡ self.old) × (unit.new ≡ unit.old)) }
+    {
+        self.state.tick(&self.plan, said, unit)
+    }
+
     // The active job goes on through this tick.
     pub fn go_on<U: SpeedUnit>(&mut self, unit: &mut U) -> Result<Report, Fault>
         ensures does { Said (U.nature unit.old) (plan_in self.old) GoOn (moment self.old (U.meaning unit.old)) (reply_of result) (moment self.new (U.meaning unit.new)) }
@@ -22,7 +34,7 @@ impl Run {
         ensures fixed { U.nature unit.new ≡ U.nature unit.old }
         ensures kept { OnErr result ((self.new ≡ self.old) × (unit.new ≡ unit.old)) }
     {
-        self.state.tick(&self.plan, false, unit)
+        self.tick(false, unit)
     }
 
     // The active job ended in this tick.
@@ -33,7 +45,7 @@ impl Run {
         ensures fixed { U.nature unit.new ≡ U.nature unit.old }
         ensures kept { OnErr result ((self.new ≡ self.old) × (unit.new ≡ unit.old)) }
     {
-        self.state.tick(&self.plan, true, unit)
+        self.tick(true, unit)
     }
 
     // Where the run and its unit stand. Nothing changes.

@@ -1,6 +1,6 @@
 // Begin: the checks, and the state that a run begins in.
-ghost use Rattle.std.specs.Prelude.{◌≡◌, ℕ, Bool, ◌<◌, ◌≤◌, not, ◌&&◌, [], length, take, replicate, Some, None, MatchResult, OnOk, nat_le, slice_index};
-ghost use Rattle.machine.specs.Begin.{count_fault, late_fault, ready_fault, untaken_fault, early_fault, unit_fault, begin_fault, firsts, put_all};
+ghost use Rattle.std.specs.Prelude.{◌≡◌, ℕ, Bool, ◌≤◌, not, ◌&&◌, [], length, replicate, Some, None, MatchResult, OnOk, nat_le};
+ghost use Rattle.machine.specs.Begin.{count_fault, ready_fault, begin_fault, firsts, put_all};
 ghost use Rattle.machine.specs.Inner.{no_job};
 ghost use Rattle.run.specs.Checks.{RefusesFirst};
 ghost use Rattle.run.specs.Views.{plan_of, line_of, inner_of};
@@ -122,10 +122,6 @@ pub(crate) fn rows_at_begin(plan: &AdmittedPlan, starts: &[u32], raise: u32) -> 
         delay: delay_at_begin(plan, starts, raise)?,
         ready: Line::empty(),
         active: None,
-        jobs: [Job {
-            due: 0,
-            next: 0,
-            given: 0,
-        }; 32],
+        jobs: [Job::default(); 32],
     })
 }

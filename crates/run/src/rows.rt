@@ -27,12 +27,7 @@ pub(crate) fn task_of(tasks: &[Task], row: u32) -> Task
 pub(crate) fn job_of(jobs: &[Job], row: u32) -> Job
     ensures { result ≡ job_at jobs.now row }
 {
-    let none = Job {
-        due: 0,
-        next: 0,
-        given: 0,
-    };
-    jobs.get(row as usize).copied().unwrap_or(none)
+    jobs.get(row as usize).copied().unwrap_or_default()
 }
 
 // Writes the job of a row. No other record changes.

@@ -1,5 +1,5 @@
 -- The forms of a line, without its byte 10. One space, byte 32, stands between two items.
-use Rattle.std.specs.Prelude.{ℕ, cond, List, [], ◌∷◌, Some, None, Option, option_and_then}
+use Rattle.std.specs.Prelude.{ℕ, codes, cond, List, Some, None, Option, option_and_then}
 use Rattle.std.specs.Str.{bytes_eq}
 use Rattle.theory.specs.Tasks.{Task}
 use Rattle.tasks.specs.Tables.{numbers}
@@ -12,13 +12,13 @@ o >>= k = option_and_then k o
 
 -- `levels`, `tasks` and `starts`.
 abbrev pub levels_word : List ℕ
-levels_word = 108 ∷ 101 ∷ 118 ∷ 101 ∷ 108 ∷ 115 ∷ []
+levels_word = codes "levels"
 
 abbrev pub tasks_word : List ℕ
-tasks_word = 116 ∷ 97 ∷ 115 ∷ 107 ∷ 115 ∷ []
+tasks_word = codes "tasks"
 
 abbrev pub starts_word : List ℕ
-starts_word = 115 ∷ 116 ∷ 97 ∷ 114 ∷ 116 ∷ 115 ∷ []
+starts_word = codes "starts"
 
 -- WORD COUNT
 abbrev pub count_line : List ℕ → List ℕ → Option ℕ

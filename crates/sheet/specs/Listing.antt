@@ -1,5 +1,5 @@
 -- The text of a listing, and of a refusal.
-use Rattle.std.specs.Prelude.{ℕ, ◌+◌, List, [], ◌∷◌, ◌++◌, decimal}
+use Rattle.std.specs.Prelude.{ℕ, ◌+◌, List, [], ◌∷◌, ◌++◌, codes, decimal}
 use Rattle.fault.specs.declared.Fault.{Fault}
 use Rattle.fault.specs.Faults.{fault_text}
 
@@ -14,7 +14,7 @@ rows_text row (a ∷ answers) = row_text row a ++ rows_text (row + 1) answers
 
 -- `level`
 abbrev pub level_word : List ℕ
-level_word = 108 ∷ 101 ∷ 118 ∷ 101 ∷ 108 ∷ []
+level_word = codes "level"
 
 -- The admitted level, and for each row, from 1, the point and the demand there.
 abbrev pub listing_text : ℕ → List (ℕ × ℕ) → List ℕ

@@ -10,14 +10,12 @@ use std::{env, fs};
 // The worked cases, computed from the definitions.
 fn worked()
     ensures { WorkedCases }
-{
-}
+{}
 
 // A worked run, computed from the definitions.
 fn worked_run()
     ensures { EndedAtOnce }
-{
-}
+{}
 
 fn show(rt: &HostRuntime, name: &str) -> anyhow::Result<()> {
     let bytes = fs::read(rt, name)?;

@@ -15,10 +15,6 @@ abbrev pub after_fault : ℕ → ℕ → Task → Option Fault
 after_fault line count t =
     cond (nat_le 32 count) (Some (fault_at BadCount line 0)) (option_map (λ why. fault_at why line (count + 1)) (task_refusal t.period t.deadline t.work))
 
--- The answer of a row, from row 1 on; none where there is no such row: `at_row` for the answers of the code.
-abbrev pub answer_at : List Answer → ℕ → Option Answer
-answer_at found row = cond (nat_le 1 row && nat_le row (length found)) (Some (slice_index_or found (row - 1) (record { point = 0; demand = 0 }))) None
-
 -- The level and the answers that the search found.
 abbrev pub level_answers : Passing → ℕ × List (ℕ × ℕ)
 level_answers f = (f.level, map point_demand f.answers.items)

@@ -90,13 +90,20 @@ impl OpenTable {
     }
 }
 
+// The level that a plan keeps; `AdmittedPlan::level` says what it means for the jobs.
+fn level_of(plan: &AdmittedPlan) -> u32
+    ensures { result ≡ plan.now.level }
+{
+    plan.level
+}
+
 impl AdmittedPlan {
     // The admitted level, which is the lowest listed one that keeps every deadline.
     pub fn level(&self) -> u32
         ensures is { result ≡ self.now.level }
         ensures lowest { LowestInTime (plan_levels self.now) (plan_tasks self.now) result (plan_answers self.now) }
     {
-        self.level
+        level_of(self)
     }
 
     // The levels, in their order.
