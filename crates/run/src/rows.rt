@@ -1,6 +1,5 @@
 // How the rows of a run move.
 ghost use Rattle.std.specs.Prelude.{◌≡◌, ◌+◌, ◌^◌, ◌<◌, ◌≤◌, true, false, map, Some, None, slice_set};
-ghost use Rattle.queue.specs.Steps.{first};
 ghost use Rattle.tasks.specs.Tables.{task_of};
 ghost use Rattle.machine.specs.Inner.{job_at, new_job, given_more, give as given, finish as finished, release_due as released, elect as elected};
 ghost use Rattle.machine.specs.Plans.{task_at};
@@ -72,20 +71,6 @@ fn job_from(task: Task, tick: u32) -> Job
 }
 
 impl Inner {
-    // The first release that is still to come.
-    pub(crate) fn first_release(&self) -> Option<Entry>
-        ensures { result ≡ first (inner_of self.now).delay }
-    {
-        self.delay.head()
-    }
-
-    // The first row that waits for the processor.
-    pub(crate) fn first_waiting(&self) -> Option<Entry>
-        ensures { result ≡ first (inner_of self.now).queue }
-    {
-        self.ready.head()
-    }
-
     // Gives the job of a row more units. The record of that row changes, and no other.
     pub(crate) fn give_row(&mut self, row: u32, units: u32)
         requires fits { (job_at self.old.jobs row).given + units < 2 ^ 32 }
@@ -121,7 +106,7 @@ impl Inner {
     pub(crate) fn elect(&mut self)
         ensures { inner_of self.new ≡ elected (inner_of self.old) }
     {
-        let Some(head) = self.first_waiting() else {
+        let Some(head) = self.ready.head() else {
             return;
         };
         let former = self.active.map(|row| Entry { key: 0, row });

@@ -36,7 +36,7 @@ fn try_rest<U: SpeedUnit>(unit: &mut U, ticks: u32)
     ensures fixed { U.nature unit.new ≡ U.nature unit.old }
 {
     if ready(unit) && (1..=65_535).contains(&ticks) && unit.standing().asked > 0 {
-        let _ = unit.rest(ticks);
+        unit.rest(ticks).unwrap();
     }
 }
 
@@ -54,7 +54,8 @@ impl State {
     {
         let end = self
             .inner
-            .first_release()
+            .delay
+            .head()
             .map_or(job.due, |release| job.due.min(release.key));
         end.saturating_sub(self.allowed.raise)
             .saturating_sub(self.count)
@@ -77,7 +78,7 @@ impl State {
     fn rest_ticks(&self) -> Option<u32>
         ensures { result ≡ option_map (λ e. e.key - self.now.count - self.now.allowed.wake) (first (inner_of self.now.inner).delay) }
     {
-        self.inner.first_release().map(|release| {
+        self.inner.delay.head().map(|release| {
             release
                 .key
                 .saturating_sub(self.count)
@@ -101,7 +102,7 @@ impl State {
         ensures does { RestsOrSlows (U.nature unit.old) (plan_of plan.now) (state_of self.now) (U.meaning unit.old) (record { pace = result; unit = U.meaning unit.new }) }
         ensures fixed { U.nature unit.new ≡ U.nature unit.old }
     {
-        match (self.inner.active, self.inner.first_waiting()) {
+        match (self.inner.active, self.inner.ready.head()) {
             (None, _) => {
                 if let Some(ticks) = self.rest_ticks() {
                     try_rest(unit, ticks);

@@ -28,7 +28,7 @@ impl BlankSheet {
         ensures exact { (c : Contents) → ReadsAs result c ↔ (Proper c × (bytes.now ≡ sheet_text c)) }
     {
         if bytes.len() > 4096 {
-            return Err(Fault::new(Refusal::SheetTooLong, 0, 0));
+            return Err(Refusal::SheetTooLong.into());
         }
         let mut lines = Lines {
             text: bytes,
@@ -39,7 +39,7 @@ impl BlankSheet {
     }
 
     // The lines after the counts.
-    fn read_bodies(self, counts: Counts, lines: Lines) -> Result<Sheet, Fault>
+    fn read_bodies(self, counts: Counts, mut lines: Lines) -> Result<Sheet, Fault>
         requires after { lines.line ≡ 3 }
         requires few { (counts.levels ≤ 64) × (counts.tasks ≤ 32) × (counts.starts ≤ 32) }
         requires matching { each_or_none counts.tasks counts.starts ≡ true }
@@ -49,7 +49,6 @@ impl BlankSheet {
             mut table,
             mut starts,
         } = self;
-        let mut lines = lines;
         read_body::<Levels>(&mut table, counts.levels, &mut lines)?;
         read_body::<Tasks>(&mut table, counts.tasks, &mut lines)?;
         read_body::<Starts>(&mut starts, counts.starts, &mut lines)?;
