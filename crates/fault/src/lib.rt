@@ -5,6 +5,7 @@ ghost use Rattle.std.specs.Prelude.{◌≡◌, Some};
 ghost use Rattle.fault.specs.Numbers.{number_of, layer_of};
 ghost use Rattle.fault.specs.Faults.{fault_at, fault_text};
 
+use std::error::Error;
 use std::fmt;
 
 // The rules that an input can break, in the order in which they are checked.
@@ -63,6 +64,7 @@ pub enum Layer {
     Unit,
 }
 
+// A rule that was broken, and where.
 #[derive(Clone, Copy, PartialEq, Eq, Debug)]
 pub struct Fault {
     pub refusal: Refusal,
@@ -146,3 +148,6 @@ impl fmt::Display for Fault {
         write!(f, "refused {number} {line} {row}")
     }
 }
+
+// A program that expects no refusal passes one up as an error.
+impl Error for Fault {}

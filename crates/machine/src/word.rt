@@ -41,6 +41,7 @@ pub struct RunStanding {
     pub unit: Standing,
 }
 
+// What is replied to a word: a tick, where the run stands, or a refusal.
 #[derive(Clone, Copy)]
 pub enum Reply {
     Ran(Report),

@@ -2,7 +2,7 @@
 // entries, first to come out first; where `len` is more than there are slots, all of them do.
 #![tactic(auto)]
 
-ghost use Rattle.std.specs.Prelude.{◌≡◌, ℕ, ◌+◌, ◌-◌, ◌<◌, ◌≤◌, min, Bool, true, ◌∷◌, length, take, drop, OnOk};
+ghost use Rattle.std.specs.Prelude.{◌≡◌, ◌+◌, ◌<◌, ◌≤◌, true, ◌∷◌, length, take, drop, OnOk};
 ghost use Rattle.queue.specs.Entries.{sooner};
 ghost use Rattle.queue.specs.Order.{Order, upto, ordered, sorted};
 ghost use Rattle.queue.specs.Steps.{Puts, Takes, first};

@@ -12,7 +12,7 @@ use fault::Fault;
 use machine::word::Word;
 use run::{Record, operate};
 use script::{add_level, add_reply, add_standing, read_words};
-use sheet::{BlankSheet, Sheet};
+use sheet::{BlankSheet, MOST_READ, Sheet};
 use std::alloc::Global;
 use std::fs::File;
 use std::io;
@@ -21,9 +21,6 @@ use tasks::level_list::LevelList;
 use units::divider::Divider;
 use units::ramp::Ramp;
 use units::unit::SpeedUnit;
-
-// One byte more than a sheet may have: what is longer is refused, so a file without end is not waited for.
-const SHEET_BYTES: u64 = 4097;
 
 // The most bytes that words are read from.
 const WORD_BYTES: usize = 16_777_216;
@@ -54,7 +51,7 @@ fn first_bytes<R: Read + Drop>(
 // The bytes of a file, or so many that they are no sheet.
 fn sheet_bytes(rt: &HostRuntime, name: &str) -> anyhow::Result<Vec<u8>> {
     let file = File::open(rt, name).map_err(|why| not_read(name, why))?;
-    first_bytes(rt.alloc(), name, file, SHEET_BYTES)
+    first_bytes(rt.alloc(), name, file, MOST_READ)
 }
 
 // The words on standard input.
@@ -97,8 +94,8 @@ fn play<U: SpeedUnit + Drop>(
 
 // The ramp of some levels.
 fn ramp_of(mut list: LevelList, levels: &[u32]) -> Result<Ramp, Fault> {
-    for level in levels {
-        list.add(0, *level)?;
+    for &level in levels {
+        list.add(0, level)?;
     }
     Ok(Ramp::new(list)?)
 }

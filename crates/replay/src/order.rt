@@ -1,5 +1,5 @@
 // What the arguments ask for.
-use anyhow::{Context, anyhow};
+use anyhow::{Context, bail};
 use sheet::number;
 use std::env;
 
@@ -17,6 +17,7 @@ pub(crate) enum UnitOrder {
     Ramp(Vec<u32>),
 }
 
+// What is printed where the arguments are not of their form.
 const USAGE: &str = "usage: replay SHEET divider RATE WAKE | replay SHEET ramp LEVEL LEVEL ..";
 
 // Reads the arguments: SHEET divider RATE WAKE, or SHEET ramp LEVEL LEVEL ..
@@ -36,16 +37,13 @@ pub(crate) fn read_order(rt: &HostRuntime) -> anyhow::Result<Order> {
     }
     let unit = match kind.as_str() {
         "divider" => {
-            let [rate, wake] = numbers.as_slice() else {
-                return Err(anyhow!(USAGE));
+            let &[rate, wake] = numbers.as_slice() else {
+                bail!(USAGE);
             };
-            UnitOrder::Divider {
-                rate: *rate,
-                wake: *wake,
-            }
+            UnitOrder::Divider { rate, wake }
         }
         "ramp" => UnitOrder::Ramp(numbers),
-        _ => return Err(anyhow!("argument 2 is neither divider nor ramp: {kind}")),
+        _ => bail!("argument 2 is neither divider nor ramp: {kind}"),
     };
     Ok(Order { sheet, unit })
 }

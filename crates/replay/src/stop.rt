@@ -11,18 +11,21 @@ pub(crate) enum Stop {
     Failed(anyhow::Error),
 }
 
+// A refusal.
 impl From<Fault> for Stop {
     fn from(fault: Fault) -> Stop {
         Stop::Refused(fault)
     }
 }
 
+// Want of memory.
 impl From<AllocError> for Stop {
     fn from(why: AllocError) -> Stop {
         Stop::Failed(why.into())
     }
 }
 
+// A run that did not begin, or had no memory.
 impl From<Halt> for Stop {
     fn from(halt: Halt) -> Stop {
         match halt {

@@ -22,7 +22,7 @@ fn row_count(plan: &AdmittedPlan) -> usize
     plan.tasks().len()
 }
 
-// First releases are for each row, or for none.
+// Refuses first releases that are neither for each row nor for none.
 fn check_count(plan: &AdmittedPlan, starts: &[u32]) -> Result<(), Fault>
     ensures does { MatchResult result (λ _. count_fault (length (plan_of plan.now).tasks) (length starts.now) ≡ None) (λ e. count_fault (length (plan_of plan.now).tasks) (length starts.now) ≡ Some e) }
     ensures few { OnOk result (length starts.now ≤ 32) }
@@ -45,7 +45,7 @@ fn check_each<F: Fn(&u32) -> bool>(numbers: &[u32], refusal: Refusal, bad: F) ->
     }
 }
 
-// The unit neither rests nor lags.
+// Refuses a unit that rests or lags.
 fn check_ready<U: SpeedUnit>(unit: &U) -> Result<(), Fault>
     ensures { MatchResult result (λ _. ready_fault (U.meaning unit.now) ≡ None) (λ e. ready_fault (U.meaning unit.now) ≡ Some e) }
 {

@@ -1,5 +1,5 @@
 // How the rows of a run move.
-ghost use Rattle.std.specs.Prelude.{◌≡◌, ◌+◌, ◌^◌, ◌<◌, ◌≤◌, true, false, map, Some, None, slice_set};
+ghost use Rattle.std.specs.Prelude.{◌≡◌, ◌+◌, ◌^◌, ◌<◌, ◌≤◌, map, Some, None, slice_set};
 ghost use Rattle.tasks.specs.Tables.{task_of};
 ghost use Rattle.machine.specs.Inner.{job_at, new_job, given_more, give as given, finish as finished, release_due as released, elect as elected};
 ghost use Rattle.machine.specs.Plans.{task_at};

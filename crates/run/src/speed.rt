@@ -117,7 +117,7 @@ impl State {
         }
     }
 
-    // If rest or lag is above 0, or the unit is still slowed, nothing more is asked. The pace after that.
+    // A unit that rests, lags or is still slowed is asked nothing more; any other rests or is slowed where it can. The pace after that.
     pub(crate) fn spare<U: SpeedUnit>(&self, plan: &AdmittedPlan, unit: &mut U) -> Pace
         ensures does { Spares (U.nature unit.old) (plan_of plan.now) (state_of self.now) (U.meaning unit.old) (record { pace = result; unit = U.meaning unit.new }) }
         ensures fixed { U.nature unit.new ≡ U.nature unit.old }

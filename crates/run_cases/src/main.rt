@@ -2,7 +2,7 @@
 // the moments of interest.
 #![tactic(auto)]
 
-use anyhow::{Context, anyhow};
+use anyhow::anyhow;
 use fault::Fault;
 use machine::word::{Event, Word};
 use run::{Halt, Record, operate};
@@ -40,8 +40,8 @@ fn three_levels(mut list: LevelList) -> Result<Ramp, Fault> {
 // The words that are said, each some times, and after each the question where the run stands.
 fn words_of(heap: Global, said: &[(Word, usize)]) -> Result<Vec<Word>, AllocError> {
     let mut words = Vec::new(heap);
-    for (word, times) in said {
-        words.extend(iter::repeat_n(*word, *times))?;
+    for &(word, times) in said {
+        words.extend(iter::repeat_n(word, times))?;
         words.push(Word::Standing)?;
     }
     Ok(words)
@@ -74,9 +74,7 @@ fn show<U: SpeedUnit>(
 ) -> anyhow::Result<()> {
     let heap = rt.alloc();
     println!(rt; "# {name}")?;
-    let table = three_rows(OpenTable::new(heap)?)
-        .ok()
-        .context("the table is refused")?;
+    let table = three_rows(OpenTable::new(heap)?)?;
     match operate(heap, table, starts, unit, words) {
         Ok(record) => rt.print(record_text(heap, &record)?)?,
         Err(Halt::NotAdmitted(back)) => rt.println(back.fault)?,
@@ -88,7 +86,7 @@ fn show<U: SpeedUnit>(
 
 // On a divider that wakes at once: row 2 runs slowed at 160, and at 180 nothing is left until the next release.
 fn on_divider(rt: &HostRuntime) -> anyhow::Result<()> {
-    let mut unit = Divider::new(100, 0).ok().context("the divider is refused")?;
+    let mut unit = Divider::new(100, 0)?;
     let said = [(Word::GoOn, 160), (Word::GoOn, 19), (Word::Ended, 1)];
     let words = words_of(rt.alloc(), &said)?;
     show(rt, "divider", &[0, 0, 0], &mut unit, &words)
@@ -96,9 +94,7 @@ fn on_divider(rt: &HostRuntime) -> anyhow::Result<()> {
 
 // On a ramp, which may take three ticks to rise: it is slowed at 166, later than at 163, where the job that is slowed begins.
 fn on_ramp(rt: &HostRuntime, name: &str, starts: &[u32]) -> anyhow::Result<()> {
-    let mut unit = three_levels(LevelList::new(rt.alloc())?)
-        .ok()
-        .context("the ramp is refused")?;
+    let mut unit = three_levels(LevelList::new(rt.alloc())?)?;
     let said = [
         (Word::GoOn, 0),
         (Word::GoOn, 163),

@@ -15,6 +15,7 @@ pub enum Unread {
     NoMemory,
 }
 
+// Want of memory is a reason of its own.
 impl From<AllocError> for Unread {
     ghost from_gives = { λ _ e. e ≡ NoMemory };
 
@@ -41,4 +42,5 @@ impl fmt::Display for Unread {
     }
 }
 
+// A program passes it up as an error.
 impl Error for Unread {}

@@ -17,6 +17,7 @@ fn worked_run()
     ensures { EndedAtOnce }
 {}
 
+// Prints the name of a file and its answer.
 fn show(rt: &HostRuntime, name: &str) -> anyhow::Result<()> {
     let bytes = fs::read(rt, name)?;
     let text = answer(rt.alloc(), &bytes)?;

@@ -25,6 +25,6 @@ Loads f [] (l ∷ ls) = ⊥
 Loads f (t ∷ ts) [] = ⊥
 Loads f (t ∷ ts) (l ∷ ls) = LoadOf f t l × Loads f ts ls
 
--- What stands at a place without a task.
+-- What stands in a place that is not used.
 abbrev pub no_load : Load
 no_load = record { period = 1; cost = 1; some_time = lit≤ tt; short = lit≤ tt; some_cost = lit≤ tt; light = lit≤ tt }

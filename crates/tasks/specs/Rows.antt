@@ -1,11 +1,10 @@
 -- Rows by their place, for the functions inside this crate.
-use Rattle.std.specs.Prelude.{ℕ, ◌+◌, ◌-◌, cond, ◌&&◌, List, map, length, Some, None, Option, nat_le, slice_index_or}
+use Rattle.std.specs.Prelude.{ℕ, ◌+◌, cond, List, map, Some, Option, nat_le}
 use Rattle.std.specs.Option.{option_map}
 use Rattle.fault.specs.declared.Fault.{Fault}
 use Rattle.fault.specs.declared.Refusal.TheVariants.{BadCount}
 use Rattle.fault.specs.Faults.{fault_at}
 use Rattle.theory.specs.Tasks.{Task}
-use Rattle.tasks.specs.declared.answer.Answer.{Answer}
 use Rattle.tasks.specs.declared.passing.Passing.{Passing}
 use Rattle.tasks.specs.Ranges.{task_refusal}
 use Rattle.tasks.specs.Tables.{point_demand}

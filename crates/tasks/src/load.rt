@@ -12,7 +12,7 @@ pub(crate) struct Load {
     ghost light: { cost ≤ 16000000 },
 }
 
-// What stands at a place without a task.
+// What stands in a place that is not used: a list of fixed memory fills its places.
 impl Default for Load {
     ghost use Rattle.std.specs.Prelude.{◌≡◌};
     ghost use Rattle.tasks.specs.Loads.{no_load};

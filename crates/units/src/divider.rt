@@ -3,6 +3,7 @@ ghost use Rattle.std.specs.Prelude.{◌≤◌};
 
 use crate::unit::Standing;
 
+// A divider takes the levels that divide its rate, and lags by its wake count after a rest.
 #[derive(Drop)]
 pub struct Divider {
     pub(crate) rate: u32,

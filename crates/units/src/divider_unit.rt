@@ -13,7 +13,7 @@ use crate::unit::{Allowances, SpeedUnit, Standing};
 use fault::{Fault, Refusal};
 
 impl Divider {
-    // A divider that is off.
+    // A divider that is off; a rate or a wake count out of its range is refused.
     pub fn new(rate: u32, wake: u32) -> Result<Divider, Fault>
         ensures { MatchResult result
             (λ d. (1 ≤ rate) × (rate ≤ 1000) × (wake ≤ 255) × (divider_meaning d ≡ nothing) × (divider_nature d ≡ divides rate wake))

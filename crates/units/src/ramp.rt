@@ -22,6 +22,7 @@ pub(crate) enum Event {
     Off,
 }
 
+// A ramp takes its own levels, and does one thing at a time.
 #[derive(Drop)]
 pub struct Ramp {
     pub(crate) levels: LevelList,
