@@ -1,5 +1,6 @@
 -- The faults that reading meets are the refusals 1 to 10.
-use Rattle.std.proofs.Common.{◌≡◌, ℕ, zero, suc, ◌+◌, ◌≤◌, Bool, ◌&&◌, nat_lt, nat_le, List, [], ◌∷◌, ◌++◌, length, Some, None, Ok, Err, Option, Result, subst, arith}
+use Rattle.std.proofs.Common.{◌≡◌, ℕ, zero, suc, ◌+◌, ◌≤◌, Bool, nat_lt, nat_le, List, [], ◌∷◌, ◌++◌, length, Some, None, Ok, Err, Option, Result, subst, arith, rules}
+use Rattle.std.proofs.lemmas.Bool.Decides.{nat_tests}
 use Rattle.std.proofs.lemmas.Bool.{cond_both}
 use Rattle.std.specs.Option.{ok_or, option_map}
 use Rattle.fault.specs.declared.Fault.{Fault}
@@ -7,7 +8,7 @@ use Rattle.fault.specs.declared.Refusal.{Refusal}
 use Rattle.fault.specs.Faults.{fault_at}
 use Rattle.fault.specs.Numbers.{number_of}
 use Rattle.theory.specs.Tasks.{Task}
-use Rattle.tasks.specs.Levels.{top, level_fault}
+use Rattle.tasks.specs.Levels.{level_fault}
 use Rattle.tasks.specs.Ranges.{one_to}
 use Rattle.tasks.specs.Tables.{task_fault}
 use Rattle.sheet.specs.Lines.{levels_word, tasks_word, starts_word, count_line, task_line}
@@ -55,7 +56,7 @@ body_low form check base low (suc n) done text = then_low (item_at form (base + 
 
 -- A level is refused for such a fault.
 level_checked : (line : ℕ) (levels : List ℕ) (level : ℕ) → NoneOrLow (level_fault line levels level)
-level_checked line levels level = cond_both (nat_le 64 (length levels)) _ _ NoneOrLow (λ full. omega arith) (λ room. cond_both (nat_lt (top levels) level && nat_le level 1000) _ _ NoneOrLow (λ on. tt) (λ off. omega arith))
+level_checked line levels level = search (rules, arith, cond_both)
 
 -- A task is refused for such a fault.
 task_checked : (line : ℕ) (tasks : List Task) (t : Task) → NoneOrLow (task_fault line tasks t)
@@ -66,7 +67,7 @@ task_checked line tasks t =
 
 -- A first release is refused for such a fault.
 start_checked : (line : ℕ) (starts : List ℕ) (s : ℕ) → NoneOrLow (start_fault line starts s)
-start_checked line starts s = cond_both (nat_le s 65535) _ _ NoneOrLow (λ on. tt) (λ off. omega arith)
+start_checked line starts s = grind (arith, nat_tests)
 
 -- Bytes that follow the last line are such a fault.
 end_low : (line : ℕ) (c : Contents) (text : List ℕ) → OkOrLow (at_end line c text)

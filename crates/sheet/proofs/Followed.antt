@@ -1,7 +1,6 @@
 -- The items of a body that is read may follow one another, and the text is theirs.
-use Rattle.std.proofs.Common.{◌≡◌, ℕ, zero, suc, ◌+◌, ◌≤◌, true, nat_lt, nat_le, List, [], ◌∷◌, ◌++◌, length, None, Ok, Option, sym, refl, ap, ◌∙◌, subst, arith}
+use Rattle.std.proofs.Common.{◌≡◌, ℕ, zero, suc, ◌+◌, ◌≤◌, true, List, [], ◌∷◌, ◌++◌, length, None, Ok, Option, sym, refl, ap, ◌∙◌, subst, arith}
 use Rattle.std.proofs.lemmas.List.{append-nil, append_assoc}
-use Rattle.std.proofs.lemmas.Bool.{and_from}
 use Rattle.std.proofs.lemmas.Bool.Decides.{nat_tests}
 use Rattle.fault.specs.declared.Fault.{Fault}
 use Rattle.theory.specs.Lists.{All}
@@ -43,10 +42,7 @@ pub follow_levels : (base : ℕ) (xs done : List ℕ) → Follow level_fault bas
 follow_levels base [] done h = refl
 follow_levels base (x ∷ xs) done h =
     let fine = h.0 in
-    let above : nat_lt (top done) x ≡ true = grind (arith, nat_tests) in
-    let low : nat_le x 1000 ≡ true = grind (arith, nat_tests) in
-    let next : ascending x xs ≡ true = sym (ap (λ n. ascending n xs) (top_push done x)) ∙ follow_levels base xs (done ++ (x ∷ [])) h.1 in
-    and_from (nat_lt (top done) x) _ above (and_from (nat_le x 1000) _ low next)
+    grind (arith, nat_tests, top_push done x, follow_levels base xs (done ++ (x ∷ [])) h.1)
 
 -- Tasks that may follow one another are in their ranges.
 pub follow_tasks : (base : ℕ) (xs done : List Task) → Follow task_fault base done xs → All (λ t. task_refusal t.period t.deadline t.work ≡ None) xs

@@ -1,5 +1,5 @@
 -- What an answer without a fault says of the parts that it comes of. Each lemma hands the parts on.
-use Rattle.std.proofs.Common.{◌≡◌, Bool, true, false, cond, Some, None, Ok, Err, Option, Result, sym, refl}
+use Rattle.std.proofs.Common.{◌≡◌, Bool, true, false, cond, Some, None, Ok, Err, Option, Result, refl, arith}
 use Rattle.std.specs.Option.{ok_or}
 use Rattle.fault.specs.declared.Fault.{Fault}
 use Rattle.sheet.specs.Sheets.{and_then, unless}
@@ -20,13 +20,11 @@ ok_parts (Err f) k h on = err_ok h
 
 -- Where a value or a fault is no fault, it is the value.
 pub ok_some : {A : Type 0} (o : Option A) (f : Fault) {x : A} → ok_or o f ≡ Ok x → o ≡ Some x
-ok_some None f h = err_ok h
-ok_some (Some x) f h = cc
+ok_some o f h = grind arith
 
 -- Where a value or a fault is a fault, it is that one.
 pub err_none : {A : Type 0} (o : Option A) (g : Fault) {f : Fault} → ok_or o g ≡ Err f → g ≡ f
-err_none None g h = cc
-err_none (Some x) g h = err_ok (sym h)
+err_none o g h = grind arith
 
 -- Where there is no fault unless there is one, there is none.
 pub ok_unless : {A Z : Type 0} (o : Option Fault) (r : Result A Fault) {x : A} → unless o r ≡ Ok x → (o ≡ None → r ≡ Ok x → Z) → Z

@@ -1,7 +1,6 @@
 -- The items of a proper sheet may follow one another, and are read back.
-use Rattle.std.proofs.Common.{◌≡◌, ℕ, ◌+◌, ◌<◌, ◌≤◌, true, nat_lt, nat_le, List, [], ◌∷◌, ◌++◌, length, None, Ok, Option, Result, sym, ap, ◌∙◌, arith}
+use Rattle.std.proofs.Common.{◌≡◌, ℕ, ◌+◌, ◌≤◌, true, List, [], ◌∷◌, ◌++◌, length, None, Ok, Option, Result, sym, ap, ◌∙◌, arith}
 use Rattle.std.proofs.lemmas.List.{append-nil, append_assoc, length_push, get_or_push}
-use Rattle.std.proofs.lemmas.Bool.{and_parts, leb-true, ltb-true}
 use Rattle.std.proofs.lemmas.Bool.Decides.{nat_tests}
 use Rattle.fault.specs.declared.Fault.{Fault}
 use Rattle.theory.specs.Lists.{All}
@@ -39,27 +38,17 @@ top_push done x = get_or_push done x 0 _ (omega (arith, length_push done x))
 -- Levels that ascend.
 pub levels_follow : (base : ℕ) (xs done : List ℕ) → ascending (top done) xs ≡ true → length done + length xs ≤ 64 → Follow level_fault base done xs
 levels_follow base [] done h few = tt
-levels_follow base (x ∷ xs) done h few =
-    let a = and_parts (nat_lt (top done) x) _ h in
-    let b = and_parts (nat_le x 1000) (ascending x xs) a.1 in
-    let room : length done < 64 = omega arith in
-    let above = ltb-true _ _ a.0 in
-    let low = leb-true _ _ b.0 in
-    let next : ascending (top (done ++ (x ∷ []))) xs ≡ true = ap (λ n. ascending n xs) (top_push done x) ∙ b.1 in
-    (grind (arith, nat_tests), levels_follow base xs (done ++ (x ∷ [])) next (omega (arith, length_push done x)))
+levels_follow base (x ∷ xs) done h few = (grind (arith, nat_tests), levels_follow base xs (done ++ (x ∷ [])) (grind (arith, nat_tests, top_push done x)) (omega (arith, length_push done x)))
 
 -- They are at most 1,000.
 pub levels_low : (low : ℕ) (xs : List ℕ) → ascending low xs ≡ true → All (λ x. x ≤ 1000) xs
 levels_low low [] h = tt
-levels_low low (x ∷ xs) h =
-    let b = and_parts (nat_le x 1000) (ascending x xs) (and_parts (nat_lt low x) _ h).1 in
-    (leb-true x 1000 b.0, levels_low x xs b.1)
+levels_low low (x ∷ xs) h = (grind (arith, nat_tests), levels_low x xs (grind (arith, nat_tests)))
 
 -- Tasks in their ranges.
 pub tasks_follow : (base : ℕ) (xs done : List Task) → All (λ t. task_refusal t.period t.deadline t.work ≡ None) xs → length done + length xs ≤ 32 → Follow task_fault base done xs
 tasks_follow base [] done h few = tt
 tasks_follow base (x ∷ xs) done h few =
-    let room : length done < 32 = omega arith in
     let fine = h.0 in
     (grind (arith, nat_tests), tasks_follow base xs (done ++ (x ∷ [])) h.1 (omega (arith, length_push done x)))
 

@@ -1,5 +1,5 @@
 -- The text of proper contents is read as those contents.
-use Rattle.std.proofs.Common.{◌≡◌, ℕ, ◌≤◌, Bool, true, nat_lt, List, [], ◌++◌, length, Ok, Result, sym, refl, ap, ◌∙◌, arith}
+use Rattle.std.proofs.Common.{◌≡◌, ℕ, Bool, true, nat_lt, List, [], ◌++◌, length, Ok, Result, sym, refl, ap, ◌∙◌, arith}
 use Rattle.std.proofs.lemmas.List.{append-nil}
 use Rattle.std.proofs.lemmas.Bool.{cond-true, cond-false, le-ltb}
 use Rattle.std.proofs.lemmas.Bool.Decides.{nat_tests}
@@ -33,17 +33,9 @@ module _ (c : Contents) (p : Proper c) where
   abbrev many : Counts
   many = record { levels = length c.levels; tasks = length c.tasks; starts = length c.starts }
 
-  -- There are no more first releases than tasks.
-  few : length c.starts ≤ 32
-  few = omega arith
-
   -- The first three lines give the counts.
   counts_read : counts (sheet_text c) ≡ Ok (many, items)
-  counts_read =
-      let levels : one_to 64 (length c.levels) ≡ true = grind (arith, nat_tests) in
-      let tasks : one_to 32 (length c.tasks) ≡ true = grind (arith, nat_tests) in
-      let starts : each_or_none (length c.tasks) (length c.starts) ≡ true = grind (arith, nat_tests) in
-      then_ok _ (count_read 1 levels_word (one_to 64) (length c.levels) _ (count_back levels_word _ (omega arith) refl refl refl) levels) ∙ then_ok _ (count_read 2 tasks_word (one_to 32) (length c.tasks) _ (count_back tasks_word _ (omega arith) refl refl refl) tasks) ∙ then_ok _ (count_read 3 starts_word _ (length c.starts) items (count_back starts_word _ (omega (arith, few)) refl refl refl) starts)
+  counts_read = then_ok _ (count_read 1 levels_word (one_to 64) (length c.levels) _ (count_back levels_word _ (omega arith) refl refl refl) (grind (arith, nat_tests))) ∙ then_ok _ (count_read 2 tasks_word (one_to 32) (length c.tasks) _ (count_back tasks_word _ (omega arith) refl refl refl) (grind (arith, nat_tests))) ∙ then_ok _ (count_read 3 starts_word (each_or_none (length c.tasks)) (length c.starts) items (count_back starts_word _ (omega arith) refl refl refl) (grind (arith, nat_tests)))
 
   -- The lines after them give the contents.
   bodies_read : bodies many items ≡ Ok c
