@@ -17,9 +17,7 @@ use Rattle.sheet.proofs.Passing.{Follow, top_push}
 module _ {X : Type 0} (form : List ℕ → Option X) (text : X → List ℕ) (exact : Exact form text) (check : ℕ → List X → X → Option Fault) (base : ℕ) where
   -- Where n items are read after others, each may follow, and the whole text is their texts and the text after them.
   items_exact : {Z : Type 0} (n : ℕ) (done : List X) (whole : List ℕ) {p : List X × List ℕ} → body form check base n done whole ≡ Ok p → ((xs : List X) → done ++ xs ≡ p.0 → length xs ≡ n → whole ≡ each_text text xs ++ p.1 → Follow check base done xs → Z) → Z
-  items_exact zero done whole {p} h on =
-      let same : ◌≡◌ {A = List X × List ℕ} (done, whole) p = cc in
-      on [] (append-nil done ∙ ap (λ q. q.0) same) refl (ap (λ q. q.1) same) tt
+  items_exact zero done whole {p} h on = let same = append-nil done in on [] (cc) (refl {a = zero}) (cc) tt
   items_exact (suc n) done whole {p} h on = ok_parts (item_at form (base + (length done + 1)) (length done + 1) whole) _ h (λ q first h. ok_unless (check (base + (length done + 1)) done q.0) _ h (λ fine h.
       let item = item_exact form text exact _ _ whole first in
       items_exact n (done ++ (q.0 ∷ [])) q.1 h (λ xs all many rest follow.
@@ -40,16 +38,14 @@ module _ {X : Type 0} (form : List ℕ → Option X) (text : X → List ℕ) (ex
 -- Levels that may follow one another ascend.
 pub follow_levels : (base : ℕ) (xs done : List ℕ) → Follow level_fault base done xs → ascending (top done) xs ≡ true
 follow_levels base [] done h = refl
-follow_levels base (x ∷ xs) done h =
-    let fine = h.0 in
-    grind (arith, nat_tests, top_push done x, follow_levels base xs (done ++ (x ∷ [])) h.1)
+follow_levels base (x ∷ xs) done h = grind (arith, nat_tests, top_push done x, follow_levels base xs (done ++ (x ∷ [])) h.1)
 
 -- Tasks that may follow one another are in their ranges.
 pub follow_tasks : (base : ℕ) (xs done : List Task) → Follow task_fault base done xs → All (λ t. task_refusal t.period t.deadline t.work ≡ None) xs
 follow_tasks base [] done h = tt
-follow_tasks base (x ∷ xs) done h = let fine = h.0 in (grind (arith, nat_tests), follow_tasks base xs (done ++ (x ∷ [])) h.1)
+follow_tasks base (x ∷ xs) done h = (grind (arith, nat_tests), follow_tasks base xs (done ++ (x ∷ [])) h.1)
 
 -- First releases that may follow one another are in their range.
 pub follow_starts : (base : ℕ) (xs done : List ℕ) → Follow start_fault base done xs → All (λ s. s ≤ 65535) xs
 follow_starts base [] done h = tt
-follow_starts base (x ∷ xs) done h = let fine = h.0 in (grind (arith, nat_tests), follow_starts base xs (done ++ (x ∷ [])) h.1)
+follow_starts base (x ∷ xs) done h = (grind (arith, nat_tests), follow_starts base xs (done ++ (x ∷ [])) h.1)

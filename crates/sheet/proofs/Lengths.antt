@@ -1,5 +1,5 @@
 -- The text of a proper sheet is short enough.
-use Rattle.std.proofs.Common.{ℕ, ◌+◌, ◌*◌, ◌^◌, ◌<◌, ◌≤◌, List, [], ◌∷◌, length, decimal, mul-suc, arith}
+use Rattle.std.proofs.Common.{ℕ, ◌+◌, ◌*◌, ◌^◌, ◌<◌, ◌≤◌, List, [], ◌∷◌, length, mul-suc, arith}
 use Rattle.std.proofs.lemmas.Fmt.{length-decimal-le}
 use Rattle.std.proofs.lemmas.List.{length-append}
 use Rattle.theory.specs.Lists.{All}
@@ -11,11 +11,11 @@ use Rattle.sheet.proofs.Passing.{all_weaker, levels_low, Low, task_low}
 -- Texts of at most k bytes each.
 each_short : {X : Type 0} (text : X → List ℕ) (k : ℕ) (xs : List X) → All (λ x. length (text x) ≤ k) xs → length (each_text text xs) ≤ k * length xs
 each_short text k [] h = omega arith
-each_short text k (x ∷ xs) h = let first = h.0 in omega (arith, length-append (text x) (each_text text xs), each_short text k xs h.1, mul-suc k (length xs))
+each_short text k (x ∷ xs) h = omega (arith, h.0, length-append (text x) (each_text text xs), each_short text k xs h.1, mul-suc k (length xs))
 
 -- A number of at most k digits, and byte 10.
 number_short : (k n : ℕ) → 0 < k → n < 10 ^ k → n < 2 ^ 64 → length (number_text n) ≤ k + 1
-number_short k n some low fits = omega (arith, length-append (decimal n) (10 ∷ []), length-decimal-le k n some low fits)
+number_short k n some low fits = simp length-append (omega (arith, length-decimal-le k n some low fits))
 
 -- Three numbers, two spaces and byte 10.
 task_short : (t : Task) → Low t → length (task_text t) ≤ 21

@@ -14,13 +14,13 @@ use Rattle.sheet.specs.Sheets.{Contents, read_sheet}
 use Rattle.sheet.specs.Written.{Proper}
 use Rattle.sheet.proofs.Converse.{sheet_exact}
 use Rattle.sheet.proofs.Faults.{fault_low}
-use Rattle.sheet.proofs.Parts.{err_ok, err_none}
+use Rattle.sheet.proofs.Parts.{err_none}
 use Rattle.sheet.proofs.Whole.{sheet_back}
 
 -- The line of the fault in bytes that are not read answers them.
 pub answers_fault : (bytes : List ℕ) (f : Fault) → read_sheet bytes ≡ Err f → AnswersSheet bytes (refusal_text f)
 answers_fault bytes f h = record {
-  of_sheet = λ c p e. err_ok (sym h ∙ ap read_sheet e ∙ sheet_back c p);
+  of_sheet = λ c p e. let back = sheet_back c p in let same = ap read_sheet e in cc;
   of_other = λ none. (f, h, fault_low bytes h, refl);
 }
 

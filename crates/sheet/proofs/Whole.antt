@@ -1,7 +1,7 @@
 -- The text of proper contents is read as those contents.
-use Rattle.std.proofs.Common.{◌≡◌, ℕ, Bool, true, nat_lt, List, [], ◌++◌, length, Ok, Result, sym, refl, ap, ◌∙◌, arith}
+use Rattle.std.proofs.Common.{◌≡◌, ℕ, Bool, true, List, [], ◌++◌, length, Ok, Result, sym, refl, ap, ◌∙◌, arith}
 use Rattle.std.proofs.lemmas.List.{append-nil}
-use Rattle.std.proofs.lemmas.Bool.{cond-true, cond-false, le-ltb}
+use Rattle.std.proofs.lemmas.Bool.{le-ltb}
 use Rattle.std.proofs.lemmas.Bool.Decides.{nat_tests}
 use Rattle.fault.specs.declared.Fault.{Fault}
 use Rattle.tasks.specs.Levels.{level_fault}
@@ -22,7 +22,7 @@ then_ok k e = ap (λ r. and_then r k) e
 
 -- A count in its range.
 count_read : (line : ℕ) (word : List ℕ) (in_range : ℕ → Bool) (n : ℕ) (rest : List ℕ) → Back (count_line word) (count_text word) n → in_range n ≡ true → count_at line word in_range (count_text word n ++ rest) ≡ Ok (n, rest)
-count_read line word in_range n rest b h = then_ok _ (b line 0 rest) ∙ cond-true (in_range n) _ _ h
+count_read line word in_range n rest b h = let read = b line 0 rest in cc
 
 module _ (c : Contents) (p : Proper c) where
   -- The text after the counts.
@@ -35,7 +35,7 @@ module _ (c : Contents) (p : Proper c) where
 
   -- The first three lines give the counts.
   counts_read : counts (sheet_text c) ≡ Ok (many, items)
-  counts_read = then_ok _ (count_read 1 levels_word (one_to 64) (length c.levels) _ (count_back levels_word _ (omega arith) refl refl refl) (grind (arith, nat_tests))) ∙ then_ok _ (count_read 2 tasks_word (one_to 32) (length c.tasks) _ (count_back tasks_word _ (omega arith) refl refl refl) (grind (arith, nat_tests))) ∙ then_ok _ (count_read 3 starts_word (each_or_none (length c.tasks)) (length c.starts) items (count_back starts_word _ (omega arith) refl refl refl) (grind (arith, nat_tests)))
+  counts_read = rw (count_read 1 levels_word (one_to 64) (length c.levels) _ (count_back levels_word _ (omega arith) refl refl refl) (grind (arith, nat_tests))) (rw (count_read 2 tasks_word (one_to 32) (length c.tasks) _ (count_back tasks_word _ (omega arith) refl refl refl) (grind (arith, nat_tests))) (rw (count_read 3 starts_word (each_or_none (length c.tasks)) (length c.starts) items (count_back starts_word _ (omega arith) refl refl refl) (grind (arith, nat_tests))) refl))
 
   -- The lines after them give the contents.
   bodies_read : bodies many items ≡ Ok c
@@ -47,4 +47,4 @@ module _ (c : Contents) (p : Proper c) where
 
   -- The text of proper contents gives those contents.
   pub sheet_back : read_sheet (sheet_text c) ≡ Ok c
-  sheet_back = cond-false (nat_lt 4096 (length (sheet_text c))) _ _ (le-ltb _ _ (sheet_short c p)) ∙ then_ok _ counts_read ∙ bodies_read
+  sheet_back = rw (le-ltb _ _ (sheet_short c p)) (rw counts_read bodies_read)
