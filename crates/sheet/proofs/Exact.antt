@@ -19,7 +19,7 @@ use Rattle.sheet.specs.Sheets.{due_line, item_at}
 use Rattle.sheet.specs.Text.{cut, value, number}
 use Rattle.sheet.specs.Written.{count_text, number_text, task_text}
 use Rattle.sheet.proofs.Decimals.{own}
-use Rattle.sheet.proofs.Parts.{when_some, ok_parts, ok_some}
+use Rattle.sheet.proofs.Parts.{ok_parts, ok_some}
 
 -- What is cut is joined again by the separator.
 cut_exact : (sep : ℕ) (xs : List ℕ) {p : List ℕ × List ℕ} → cut sep xs ≡ Some p → xs ≡ p.0 ++ (sep ∷ p.1)
@@ -56,12 +56,14 @@ exact_number xs n h = ap (λ l. l ++ (10 ∷ [])) (number_exact xs h)
 
 -- A word with a count is read only from their text.
 pub exact_count : (word : List ℕ) → Exact (count_line word) (count_text word)
-exact_count word xs n h = option_and_then_some _ (cut 32 xs) n h (λ p parts h. when_some (bytes_eq p.0 word) _ h (λ on h.
+exact_count word xs n h = option_and_then_some _ (cut 32 xs) n h (λ p parts h. 
+    let on : bytes_eq p.0 word ≡ true = grind arith in
+    let some : number p.1 ≡ Some n = grind arith in
     let joined = cut_exact 32 xs parts in
     let first = (bytes_eq-Decides p.0 word).0 on in
-    let count = number_exact p.1 h in
+    let count = number_exact p.1 some in
     let again = append_assoc word (32 ∷ decimal n) (10 ∷ []) in
-    cc))
+    cc)
 
 -- The numbers of a task are read only from their text.
 pub exact_task : Exact task_line task_text

@@ -1,16 +1,14 @@
 -- The faults that reading meets are the refusals 1 to 10.
-use Rattle.std.proofs.Common.{◌≡◌, ℕ, zero, suc, ◌+◌, ◌≤◌, Bool, nat_lt, List, [], ◌∷◌, ◌++◌, length, Err, Option, Result, arith, rules, IfSome, IfErr}
+use Rattle.std.proofs.Common.{◌≡◌, ℕ, zero, suc, ◌≤◌, Bool, nat_lt, List, length, Err, Option, Result, arith, rules, IfSome, IfErr}
 use Rattle.std.proofs.lemmas.Result.{IfErr-at_err}
 use Rattle.std.proofs.lemmas.Bool.Decides.{nat_tests}
 use Rattle.std.proofs.lemmas.Bool.{cond_both}
-use Rattle.std.specs.Option.{ok_or}
 use Rattle.fault.specs.declared.Fault.{Fault}
 use Rattle.fault.specs.Numbers.{number_of}
 use Rattle.theory.specs.Tasks.{Task}
 use Rattle.tasks.specs.Levels.{level_fault}
 use Rattle.tasks.specs.Tables.{task_fault}
-use Rattle.sheet.specs.Sheets.{Contents, and_then, unless, item_at, count_at, body, start_fault, at_end, counts, bodies, read_lines, read_sheet}
-use Rattle.sheet.specs.declared.counts.Counts.{Counts}
+use Rattle.sheet.specs.Sheets.{Contents, and_then, unless, item_at, count_at, body, start_fault, at_end, read_lines, read_sheet}
 
 -- The fault, where there is one, is a refusal up to 10.
 abbrev NoneOrLow : Option Fault → Type 0
@@ -24,17 +22,13 @@ OkOrLow r = IfErr r (λ f. number_of f.refusal ≤ 10)
 then_low : {A B : Type 0} (r : Result A Fault) (k : A → Result B Fault) → OkOrLow r → ((x : A) → OkOrLow (k x)) → OkOrLow (and_then r k)
 then_low r k h next = search rules
 
--- So it is of a value or such a fault.
-or_low : {A : Type 0} (o : Option A) (f : Fault) → number_of f.refusal ≤ 10 → OkOrLow (ok_or o f)
-or_low o f h = search rules
-
 -- So it is of such an answer, unless there is such a fault.
 unless_low : {A : Type 0} (o : Option Fault) (r : Result A Fault) → NoneOrLow o → OkOrLow r → OkOrLow (unless o r)
 unless_low o r h next = search rules
 
 -- A line that is missing, or not of its form, is such a fault.
 item_low : {X : Type 0} (form : List ℕ → Option X) (line row : ℕ) (text : List ℕ) → OkOrLow (item_at form line row text)
-item_low form line row text = search (rules, arith, then_low, or_low)
+item_low form line row text = search (rules, arith, then_low)
 
 -- A count out of its range is such a fault.
 count_low : (line : ℕ) (word : List ℕ) (in_range : ℕ → Bool) (text : List ℕ) → OkOrLow (count_at line word in_range text)
@@ -43,7 +37,7 @@ count_low line word in_range text = search (rules, arith, then_low, item_low, co
 -- So it is of a body whose items are refused for such faults.
 body_low : {X : Type 0} (form : List ℕ → Option X) (check : ℕ → List X → X → Option Fault) (base : ℕ) → ((line : ℕ) (done : List X) (x : X) → NoneOrLow (check line done x)) → (n : ℕ) (done : List X) (text : List ℕ) → OkOrLow (body form check base n done text)
 body_low form check base low zero done text = tt
-body_low form check base low (suc n) done text = then_low (item_at form (base + (length done + 1)) (length done + 1) text) _ (item_low form _ _ text) (λ p. unless_low (check (base + (length done + 1)) done p.0) _ (low _ done p.0) (body_low form check base low n (done ++ (p.0 ∷ [])) p.1))
+body_low form check base low (suc n) done text = search (rules, then_low, item_low, unless_low, low, body_low form check base low n)
 
 -- A level is refused for such a fault.
 level_checked : (line : ℕ) (levels : List ℕ) (level : ℕ) → NoneOrLow (level_fault line levels level)
@@ -61,14 +55,6 @@ start_checked line starts s = grind (arith, nat_tests)
 end_low : (line : ℕ) (c : Contents) (text : List ℕ) → OkOrLow (at_end line c text)
 end_low line c text = grind arith
 
--- So it is of the first three lines.
-counts_low : (text : List ℕ) → OkOrLow (counts text)
-counts_low text = search (rules, then_low, count_low)
-
--- So it is of the lines after them.
-bodies_low : (n : Counts) (text : List ℕ) → OkOrLow (bodies n text)
-bodies_low n text = search (rules, then_low, body_low, level_checked, task_checked, start_checked, end_low)
-
 -- The fault of a sheet that is not read is a refusal up to 10.
 pub fault_low : (bytes : List ℕ) {f : Fault} → read_sheet bytes ≡ Err f → number_of f.refusal ≤ 10
-fault_low bytes h = IfErr-at_err _ h (cond_both (nat_lt 4096 (length bytes)) _ (read_lines bytes) OkOrLow (λ long. omega arith) (λ short. then_low (counts bytes) _ (counts_low bytes) (λ n. bodies_low n.0 n.1)))
+fault_low bytes h = IfErr-at_err (λ f. number_of f.refusal ≤ 10) h (cond_both (nat_lt 4096 (length bytes)) _ (read_lines bytes) OkOrLow (λ long. omega arith) (λ short. search (rules, then_low, count_low, body_low, level_checked, task_checked, start_checked, end_low) depth 10))

@@ -1,5 +1,5 @@
 -- The items of a body that is read may follow one another, and the text is theirs.
-use Rattle.std.proofs.Common.{◌≡◌, ℕ, zero, suc, ◌+◌, ◌≤◌, true, List, [], ◌∷◌, ◌++◌, length, None, Ok, Option, sym, refl, ap, ◌∙◌, subst, arith}
+use Rattle.std.proofs.Common.{◌≡◌, ℕ, zero, suc, ◌+◌, ◌≤◌, true, List, [], ◌∷◌, ◌++◌, length, None, Ok, Option, sym, refl, ap, ◌∙◌, arith}
 use Rattle.std.proofs.lemmas.List.{append-nil, append_assoc}
 use Rattle.std.proofs.lemmas.Bool.Decides.{nat_tests}
 use Rattle.fault.specs.declared.Fault.{Fault}
@@ -32,8 +32,7 @@ module _ {X : Type 0} (form : List ℕ → Option X) (text : X → List ℕ) (ex
   -- What is read as a body is one.
   pub body_exact : (n : ℕ) (whole : List ℕ) {p : List X × List ℕ} → body form check base n [] whole ≡ Ok p → Body n whole p.0 p.1
   body_exact n whole {p} h =
-      let P : List X → Type 0 = λ xs. Body n whole xs p.1 in
-      items_exact n [] whole h (λ xs all many texts follow. subst P all (record { many = many; texts = texts; follow = follow }))
+      items_exact n [] whole h (λ xs all many texts follow. rw (sym all) (record { many = many; texts = texts; follow = follow }))
 
 -- Levels that may follow one another ascend.
 pub follow_levels : (base : ℕ) (xs done : List ℕ) → Follow level_fault base done xs → ascending (top done) xs ≡ true

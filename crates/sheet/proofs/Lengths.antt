@@ -11,7 +11,7 @@ use Rattle.sheet.proofs.Passing.{all_weaker, levels_low, Low, task_low}
 -- Texts of at most k bytes each.
 each_short : {X : Type 0} (text : X → List ℕ) (k : ℕ) (xs : List X) → All (λ x. length (text x) ≤ k) xs → length (each_text text xs) ≤ k * length xs
 each_short text k [] h = omega arith
-each_short text k (x ∷ xs) h = omega (arith, h.0, length-append (text x) (each_text text xs), each_short text k xs h.1, mul-suc k (length xs))
+each_short text k (x ∷ xs) h = simp (length-append, mul-suc) (omega (arith, h.0, each_short text k xs h.1))
 
 -- A number of at most k digits, and byte 10.
 number_short : (k n : ℕ) → 0 < k → n < 10 ^ k → n < 2 ^ 64 → length (number_text n) ≤ k + 1
