@@ -1,4 +1,4 @@
--- What an answer without a fault says of the parts that it comes of. Each lemma hands the parts on.
+-- What an answer without a fault says of the parts that it comes of. The lemma hands the parts on.
 use Rattle.std.proofs.Common.{◌≡◌, Ok, Err, Result, refl}
 use Rattle.fault.specs.declared.Fault.{Fault}
 use Rattle.sheet.specs.Sheets.{and_then}

@@ -1,6 +1,6 @@
 -- The items of a proper sheet may follow one another, and are read back.
-use Rattle.std.proofs.Common.{◌≡◌, ℕ, ◌+◌, ◌≤◌, true, List, [], ◌∷◌, ◌++◌, length, None, Ok, Option, sym, ap, arith}
-use Rattle.std.proofs.lemmas.List.{append-nil, append_assoc, length_push, get_or_push}
+use Rattle.std.proofs.Common.{◌≡◌, ℕ, ◌+◌, ◌≤◌, true, List, [], ◌∷◌, ◌++◌, length, None, Ok, Option, ap, arith, rules}
+use Rattle.std.proofs.lemmas.List.{append_assoc, length_push, get_or_push}
 use Rattle.std.proofs.lemmas.Bool.Decides.{nat_tests}
 use Rattle.fault.specs.declared.Fault.{Fault}
 use Rattle.theory.specs.Lists.{All}
@@ -25,17 +25,13 @@ Follow check base done (x ∷ xs) = (check (base + (length done + 1)) done x ≡
 module _ {X : Type 0} (form : List ℕ → Option X) (text : X → List ℕ) (check : ℕ → List X → X → Option Fault) (base : ℕ) where
   -- The texts of such items are read back.
   pub body_back : (xs done : List X) (rest : List ℕ) → All (Back form text) xs → Follow check base done xs → body form check base (length xs) done (each_text text xs ++ rest) ≡ Ok (done ++ xs, rest)
-  body_back [] done rest b f = ap (λ l. Ok (l, rest)) (sym (append-nil done))
+  body_back [] done rest b f = search rules
   body_back (x ∷ xs) done rest b f = rw (append_assoc (text x) (each_text text xs) rest) (rw (b.0 (base + (length done + 1)) (length done + 1) (each_text text xs ++ rest)) (rw f.0 (rw (body_back xs (done ++ (x ∷ [])) rest b.1 f.1) (ap (λ l. Ok (l, rest)) (append_assoc done (x ∷ []) xs)))))
-
--- The last level of a list is the one that came last.
-pub top_push : (done : List ℕ) (x : ℕ) → top (done ++ (x ∷ [])) ≡ x
-top_push done x = get_or_push done x 0 _ (omega (arith, length_push done x))
 
 -- Levels that ascend.
 pub levels_follow : (base : ℕ) (xs done : List ℕ) → ascending (top done) xs ≡ true → length done + length xs ≤ 64 → Follow level_fault base done xs
 levels_follow base [] done h few = tt
-levels_follow base (x ∷ xs) done h few = (grind (arith, nat_tests), levels_follow base xs (done ++ (x ∷ [])) (grind (arith, nat_tests, top_push done x)) (omega (arith, length_push done x)))
+levels_follow base (x ∷ xs) done h few = (grind (arith, nat_tests), levels_follow base xs (done ++ (x ∷ [])) (grind (arith, nat_tests, get_or_push, length_push)) (omega (arith, length_push done x)))
 
 -- They are at most 1,000.
 pub levels_low : (low : ℕ) (xs : List ℕ) → ascending low xs ≡ true → All (λ x. x ≤ 1000) xs
