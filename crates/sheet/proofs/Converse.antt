@@ -21,7 +21,7 @@ use Rattle.sheet.proofs.Whole.{sheet_back}
 
 -- A count that is read is in its range, and the text begins with its line.
 count_exact : (line : ℕ) (word : List ℕ) (in_range : ℕ → Bool) (text : List ℕ) {p : ℕ × List ℕ} → count_at line word in_range text ≡ Ok p → (in_range p.0 ≡ true) × (text ≡ count_text word p.0 ++ p.1)
-count_exact line word in_range text {p} h = ok_parts (item_at (count_line word) line 0 text) _ h (λ q item h. 
+count_exact line word in_range text {p} h = ok_parts (item_at (count_line word) line 0 text) _ h (λ q item h.
     let same : ◌≡◌ {A = ℕ × List ℕ} q p = grind arith in
     let P : ℕ × List ℕ → Type 0 = λ p. (in_range p.0 ≡ true) × (text ≡ count_text word p.0 ++ p.1) in
     subst P same (grind arith, item_exact (count_line word) (count_text word) (exact_count word) line 0 text item))

@@ -56,7 +56,7 @@ exact_number xs n h = ap (λ l. l ++ (10 ∷ [])) (number_exact xs h)
 
 -- A word with a count is read only from their text.
 pub exact_count : (word : List ℕ) → Exact (count_line word) (count_text word)
-exact_count word xs n h = option_and_then_some _ (cut 32 xs) n h (λ p parts h. 
+exact_count word xs n h = option_and_then_some _ (cut 32 xs) n h (λ p parts h.
     let joined = cut_exact 32 xs parts in
     let first = (bytes_eq-Decides p.0 word).0 (grind arith) in
     let count = number_exact p.1 {n = n} (grind arith) in

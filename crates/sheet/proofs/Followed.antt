@@ -18,7 +18,7 @@ module _ {X : Type 0} (form : List ℕ → Option X) (text : X → List ℕ) (ex
   -- Where n items are read after others, each may follow, and the whole text is their texts and the text after them.
   items_exact : {Z : Type 0} (n : ℕ) (done : List X) (whole : List ℕ) {p : List X × List ℕ} → body form check base n done whole ≡ Ok p → ((xs : List X) → done ++ xs ≡ p.0 → length xs ≡ n → whole ≡ each_text text xs ++ p.1 → Follow check base done xs → Z) → Z
   items_exact zero done whole {p} h on = let same = append-nil done in on [] (cc) (refl {a = zero}) (cc) tt
-  items_exact (suc n) done whole {p} h on = ok_parts (item_at form (base + (length done + 1)) (length done + 1) whole) _ h (λ q first h. 
+  items_exact (suc n) done whole {p} h on = ok_parts (item_at form (base + (length done + 1)) (length done + 1) whole) _ h (λ q first h.
       let item = item_exact form text exact _ _ whole first in
       items_exact n (done ++ (q.0 ∷ [])) q.1 {p = p} (grind arith) (λ xs all many rest follow.
       on (q.0 ∷ xs) (sym (append_assoc done (q.0 ∷ []) xs) ∙ all) (ap suc many) (item ∙ ap (λ l. text q.0 ++ l) rest ∙ sym (append_assoc (text q.0) (each_text text xs) p.1)) (grind arith, follow)))

@@ -7,4 +7,3 @@ use Rattle.sheet.specs.Sheets.{and_then}
 pub ok_parts : {A B Z : Type 0} (r : Result A Fault) (k : A → Result B Fault) {y : B} → and_then r k ≡ Ok y → ((x : A) → r ≡ Ok x → k x ≡ Ok y → Z) → Z
 ok_parts (Ok x) k h on = on x refl h
 ok_parts (Err f) k h on = cc
-
