@@ -8,7 +8,7 @@ use Rattle.fault.specs.Numbers.{number_of}
 use Rattle.theory.specs.Tasks.{Task}
 use Rattle.tasks.specs.Levels.{level_fault}
 use Rattle.tasks.specs.Tables.{task_fault}
-use Rattle.sheet.specs.Sheets.{Contents, and_then, item_at, count_at, body, start_fault, at_end, read_lines, read_sheet}
+use Rattle.sheet.specs.Sheets.{Contents, and_then, count_at, body, start_fault, at_end, read_lines, read_sheet}
 
 -- The fault, where there is one, is a refusal up to 10.
 abbrev NoneOrLow : Option Fault → Type 0
@@ -22,18 +22,14 @@ OkOrLow r = IfErr r (λ f. number_of f.refusal ≤ 10)
 then_low : {A B : Type 0} (r : Result A Fault) (k : A → Result B Fault) → OkOrLow r → ((x : A) → OkOrLow (k x)) → OkOrLow (and_then r k)
 then_low r k h next = search rules
 
--- A line that is missing, or not of its form, is such a fault.
-item_low : {X : Type 0} (form : List ℕ → Option X) (line row : ℕ) (text : List ℕ) → OkOrLow (item_at form line row text)
-item_low form line row text = search (rules, arith, then_low)
-
--- A count out of its range is such a fault.
+-- A count that is missing, not of its form, or out of its range is such a fault.
 count_low : (line : ℕ) (word : List ℕ) (in_range : ℕ → Bool) (text : List ℕ) → OkOrLow (count_at line word in_range text)
-count_low line word in_range text = search (rules, arith, then_low, item_low, cond_both)
+count_low line word in_range text = search (rules, arith, then_low, cond_both)
 
 -- So it is of a body whose items are refused for such faults.
 body_low : {X : Type 0} (form : List ℕ → Option X) (check : ℕ → List X → X → Option Fault) (base : ℕ) → ((line : ℕ) (done : List X) (x : X) → NoneOrLow (check line done x)) → (n : ℕ) (done : List X) (text : List ℕ) → OkOrLow (body form check base n done text)
 body_low form check base low zero done text = tt
-body_low form check base low (suc n) done text = search (rules, then_low, item_low, low, body_low form check base low n)
+body_low form check base low (suc n) done text = search (rules, arith, then_low, low, body_low form check base low n)
 
 -- A level is refused for such a fault.
 level_checked : (line : ℕ) (levels : List ℕ) (level : ℕ) → NoneOrLow (level_fault line levels level)
