@@ -16,15 +16,15 @@ use Rattle.sheet.specs.declared.counts.Counts.{Counts}
 use Rattle.sheet.specs.declared.sheet.Sheet.{Sheet}
 use Rattle.sheet.proofs.Exact.{exact_number, exact_count, exact_task, item_exact}
 use Rattle.sheet.proofs.Followed.{body_exact, follow_levels, follow_tasks, follow_starts}
-use Rattle.sheet.proofs.Parts.{err_ok, ok_parts, ok_when}
+use Rattle.sheet.proofs.Parts.{ok_parts}
 use Rattle.sheet.proofs.Whole.{sheet_back}
 
 -- A count that is read is in its range, and the text begins with its line.
 count_exact : (line : ℕ) (word : List ℕ) (in_range : ℕ → Bool) (text : List ℕ) {p : ℕ × List ℕ} → count_at line word in_range text ≡ Ok p → (in_range p.0 ≡ true) × (text ≡ count_text word p.0 ++ p.1)
-count_exact line word in_range text {p} h = ok_parts (item_at (count_line word) line 0 text) _ h (λ q item h. ok_when (in_range q.0) _ _ h (λ fine h.
-    let same : ◌≡◌ {A = ℕ × List ℕ} q p = cc in
+count_exact line word in_range text {p} h = ok_parts (item_at (count_line word) line 0 text) _ h (λ q item h.
+    let same : ◌≡◌ {A = ℕ × List ℕ} q p = grind arith in
     let P : ℕ × List ℕ → Type 0 = λ p. (in_range p.0 ≡ true) × (text ≡ count_text word p.0 ++ p.1) in
-    subst P same (fine, item_exact (count_line word) (count_text word) (exact_count word) line 0 text item)))
+    subst P same (grind arith, item_exact (count_line word) (count_text word) (exact_count word) line 0 text item))
 
 -- The counts of a sheet: each in its range, and the text begins with their lines.
 record Counted (n : Counts) (text rest : List ℕ) : Type 0 where
@@ -46,7 +46,7 @@ counts_exact text {p} h = ok_parts (count_at 1 levels_word (one_to 64) text) _ h
 -- A sheet that ends after its last line says what was read, and no text is left.
 end_exact : (line : ℕ) (c : Contents) (rest : List ℕ) {d : Contents} → at_end line c rest ≡ Ok d → (rest ≡ []) × (c ≡ d)
 end_exact line c [] h = (refl, cc)
-end_exact line c (b ∷ bs) h = err_ok h
+end_exact line c (b ∷ bs) h = cc
 
 -- What is read after the counts is proper, and the bytes are its text.
 bodies_exact : (n : Counts) (bytes text : List ℕ) → Counted n bytes text → (c : Contents) → bodies n text ≡ Ok c → Proper c × (bytes ≡ sheet_text c)
@@ -76,11 +76,11 @@ bodies_exact n bytes text counted c h =
 pub sheet_exact : (bytes : List ℕ) (c : Contents) → read_sheet bytes ≡ Ok c → Proper c × (bytes ≡ sheet_text c)
 sheet_exact bytes c h =
     let P : Result Contents Fault → Type 0 = λ r. r ≡ Ok c → Proper c × (bytes ≡ sheet_text c) in
-    cond_both (nat_lt 4096 (length bytes)) _ (read_lines bytes) P (λ long h. err_ok h) (λ short h. ok_parts (counts bytes) _ h (λ n first h. bodies_exact n.0 bytes n.1 (counts_exact bytes first) c h)) h
+    cond_both (nat_lt 4096 (length bytes)) _ (read_lines bytes) P (λ long h. cc) (λ short h. ok_parts (counts bytes) _ h (λ n first h. bodies_exact n.0 bytes n.1 (counts_exact bytes first) c h)) h
 
 -- So the code reads contents exactly where they are proper and the bytes are their text.
 pub read_exact : (bytes : List ℕ) (r : Result Sheet Fault) → MatchResult r (λ s. read_sheet bytes ≡ Ok (contents_of s)) (λ f. read_sheet bytes ≡ Err f) → (c : Contents) → ReadsAs r c ↔ (Proper c × (bytes ≡ sheet_text c))
 read_exact bytes (Ok s) v c =
     let P : Contents → Type 0 = λ c. Proper c × (bytes ≡ sheet_text c) in
     (λ e. subst P e (sheet_exact bytes (contents_of s) v), λ p. let back = sheet_back c p.0 in let same = ap read_sheet p.1 in cc)
-read_exact bytes (Err f) v c = (λ none. absurd none, λ p. err_ok (sym v ∙ ap read_sheet p.1 ∙ sheet_back c p.0))
+read_exact bytes (Err f) v c = (λ none. absurd none, λ p. let back = sheet_back c p.0 in let same = ap read_sheet p.1 in cc)

@@ -10,7 +10,7 @@ use Rattle.std.proofs.lemmas.Bool.{ltb-true}
 use Rattle.std.proofs.lemmas.Bool.Decides.{nat_tests}
 use Rattle.std.specs.Option.{ok_or}
 use Rattle.std.specs.List.{position_or_len}
-use Rattle.std.specs.Str.{all_ascii_digits, bytes_eq}
+use Rattle.std.specs.Str.{all_ascii_digits}
 use Rattle.fault.specs.Faults.{fault_at}
 use Rattle.fault.specs.declared.Refusal.TheVariants.{BadLine}
 use Rattle.tasks.specs.Tables.{numbers}
@@ -19,7 +19,7 @@ use Rattle.sheet.specs.Sheets.{due_line, item_at}
 use Rattle.sheet.specs.Text.{cut, value, number}
 use Rattle.sheet.specs.Written.{count_text, number_text, task_text}
 use Rattle.sheet.proofs.Decimals.{own}
-use Rattle.sheet.proofs.Parts.{when_some, ok_parts, ok_some}
+use Rattle.sheet.proofs.Parts.{ok_parts}
 
 -- What is cut is joined again by the separator.
 cut_exact : (sep : ℕ) (xs : List ℕ) {p : List ℕ × List ℕ} → cut sep xs ≡ Some p → xs ≡ p.0 ++ (sep ∷ p.1)
@@ -56,12 +56,12 @@ exact_number xs n h = ap (λ l. l ++ (10 ∷ [])) (number_exact xs h)
 
 -- A word with a count is read only from their text.
 pub exact_count : (word : List ℕ) → Exact (count_line word) (count_text word)
-exact_count word xs n h = option_and_then_some _ (cut 32 xs) n h (λ p parts h. when_some (bytes_eq p.0 word) _ h (λ on h.
+exact_count word xs n h = option_and_then_some _ (cut 32 xs) n h (λ p parts h.
     let joined = cut_exact 32 xs parts in
-    let first = (bytes_eq-Decides p.0 word).0 on in
-    let count = number_exact p.1 h in
+    let first = (bytes_eq-Decides p.0 word).0 (grind arith) in
+    let count = number_exact p.1 {n = n} (grind arith) in
     let again = append_assoc word (32 ∷ decimal n) (10 ∷ []) in
-    cc))
+    cc)
 
 -- The numbers of a task are read only from their text.
 pub exact_task : Exact task_line task_text
@@ -78,8 +78,8 @@ exact_task xs t h = option_and_then_some _ (cut 32 xs) t h (λ p first h. option
 -- Where an item is read, the whole text is the item's text and the text after it.
 pub item_exact : {X : Type 0} (form : List ℕ → Option X) (text : X → List ℕ) → Exact form text → (line row : ℕ) (whole : List ℕ) {p : X × List ℕ} → item_at form line row whole ≡ Ok p → whole ≡ text p.0 ++ p.1
 item_exact {X} form text exact line row whole {p} h = ok_parts (due_line line row whole) _ h (λ q first h. ok_parts (ok_or (form q.0) (fault_at BadLine line row)) _ h (λ x second h.
-    let joined = cut_exact 10 whole (ok_some (cut 10 whole) _ first) in
-    let item = exact q.0 x (ok_some (form q.0) _ second) in
+    let joined = cut_exact 10 whole {p = q} (grind arith) in
+    let item = exact q.0 x (grind arith) in
     let again = append_assoc q.0 (10 ∷ []) q.1 in
     let same : ◌≡◌ {A = X × List ℕ} (x, q.1) p = cc in
     let P : X × List ℕ → Type 0 = λ p. whole ≡ text p.0 ++ p.1 in

@@ -1,35 +1,25 @@
 -- The text of a proper sheet is short enough.
-use Rattle.std.proofs.Common.{ℕ, ◌+◌, ◌*◌, ◌^◌, ◌<◌, ◌≤◌, List, [], ◌∷◌, ◌++◌, length, decimal, mul-suc, arith}
+use Rattle.std.proofs.Common.{ℕ, ◌+◌, ◌*◌, ◌^◌, ◌<◌, ◌≤◌, List, [], ◌∷◌, length, mul-suc, arith}
 use Rattle.std.proofs.lemmas.Fmt.{length-decimal-le}
 use Rattle.std.proofs.lemmas.List.{length-append}
 use Rattle.theory.specs.Lists.{All}
 use Rattle.theory.specs.Tasks.{Task}
-use Rattle.sheet.specs.Lines.{levels_word, tasks_word, starts_word}
 use Rattle.sheet.specs.Sheets.{Contents}
-use Rattle.sheet.specs.Written.{count_text, number_text, task_text, each_text, sheet_text, Proper}
+use Rattle.sheet.specs.Written.{number_text, task_text, each_text, sheet_text, Proper}
 use Rattle.sheet.proofs.Passing.{all_weaker, levels_low, Low, task_low}
 
 -- Texts of at most k bytes each.
 each_short : {X : Type 0} (text : X → List ℕ) (k : ℕ) (xs : List X) → All (λ x. length (text x) ≤ k) xs → length (each_text text xs) ≤ k * length xs
 each_short text k [] h = omega arith
-each_short text k (x ∷ xs) h =
-    let first = h.0 in
-    omega (arith, length-append (text x) (each_text text xs), each_short text k xs h.1, mul-suc k (length xs))
+each_short text k (x ∷ xs) h = simp (length-append, mul-suc) (omega (arith, h.0, each_short text k xs h.1))
 
 -- A number of at most k digits, and byte 10.
 number_short : (k n : ℕ) → 0 < k → n < 10 ^ k → n < 2 ^ 64 → length (number_text n) ≤ k + 1
-number_short k n some low fits = omega (arith, length-append (decimal n) (10 ∷ []), length-decimal-le k n some low fits)
+number_short k n some low fits = simp length-append (omega (arith, length-decimal-le k n some low fits))
 
 -- Three numbers, two spaces and byte 10.
 task_short : (t : Task) → Low t → length (task_text t) ≤ 21
-task_short t low =
-    let later = decimal t.deadline ++ (32 ∷ decimal t.work ++ (10 ∷ [])) in
-    omega (arith, length-append (decimal t.period) (32 ∷ later), length-append (decimal t.deadline) (32 ∷ decimal t.work ++ (10 ∷ [])), length-append (decimal t.work) (10 ∷ []), length-decimal-le 5 t.period (omega arith) (omega arith) (omega arith), length-decimal-le 5 t.deadline (omega arith) (omega arith) (omega arith), length-decimal-le 8 t.work (omega arith) (omega arith) (omega arith))
-
--- A word with a count below 100.
-count_short : (word : List ℕ) (n : ℕ) → n < 100 → length (count_text word n) ≤ length word + 4
-count_short word n low =
-    omega (arith, length-append word (32 ∷ decimal n ++ (10 ∷ [])), length-append (decimal n) (10 ∷ []), length-decimal-le 2 n (omega arith) (omega arith) (omega arith))
+task_short t low = simp length-append (omega (arith, length-decimal-le 5 t.period (omega arith) (omega arith) (omega arith), length-decimal-le 5 t.deadline (omega arith) (omega arith) (omega arith), length-decimal-le 8 t.work (omega arith) (omega arith) (omega arith)))
 
 -- At most 4,096 bytes.
 pub sheet_short : (c : Contents) → Proper c → length (sheet_text c) ≤ 4096
@@ -37,9 +27,4 @@ sheet_short c p =
     let levels = each_short number_text 5 c.levels (all_weaker (λ n h. number_short 4 n (omega arith) (omega arith) (omega arith)) c.levels (levels_low 0 c.levels p.rising)) in
     let tasks = each_short task_text 21 c.tasks (all_weaker (λ t h. task_short t (task_low t h)) c.tasks p.in_range) in
     let starts = each_short number_text 6 c.starts (all_weaker (λ n h. number_short 5 n (omega arith) (omega arith) (omega arith)) c.starts p.early) in
-    let few : length c.starts ≤ 32 = omega arith in
-    let last = each_text task_text c.tasks ++ each_text number_text c.starts in
-    let items = each_text number_text c.levels ++ last in
-    let third = count_text starts_word (length c.starts) ++ items in
-    let second = count_text tasks_word (length c.tasks) ++ third in
-    omega (arith, count_short levels_word (length c.levels) (omega arith), count_short tasks_word (length c.tasks) (omega arith), count_short starts_word (length c.starts) (omega arith), length-append (count_text levels_word (length c.levels)) second, length-append (count_text tasks_word (length c.tasks)) third, length-append (count_text starts_word (length c.starts)) items, length-append (each_text number_text c.levels) last, length-append (each_text task_text c.tasks) (each_text number_text c.starts))
+    simp length-append (omega (arith, length-decimal-le 2 (length c.levels) (omega arith) (omega arith) (omega arith), length-decimal-le 2 (length c.tasks) (omega arith) (omega arith) (omega arith), length-decimal-le 2 (length c.starts) (omega arith) (omega arith) (omega arith)))

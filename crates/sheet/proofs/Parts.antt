@@ -1,39 +1,9 @@
--- What an answer without a fault says of the parts that it comes of. Each lemma hands the parts on.
-use Rattle.std.proofs.Common.{◌≡◌, Bool, true, false, cond, Some, None, Ok, Err, Option, Result, sym, refl}
-use Rattle.std.specs.Option.{ok_or}
+-- What an answer without a fault says of the parts that it comes of. The lemma hands the parts on.
+use Rattle.std.proofs.Common.{◌≡◌, Ok, Err, Result, refl}
 use Rattle.fault.specs.declared.Fault.{Fault}
-use Rattle.sheet.specs.Sheets.{and_then, unless}
-
--- Nothing is both a fault and an answer without one.
-pub err_ok : {A Z : Type 0} {f : Fault} {x : A} → ◌≡◌ {A = Result A Fault} (Err f) (Ok x) → Z
-err_ok h = cc
-
--- Where a value stands under a condition, the condition holds.
-pub when_some : {A Z : Type 0} (b : Bool) (o : Option A) {y : A} → cond b o None ≡ Some y → (b ≡ true → o ≡ Some y → Z) → Z
-when_some true o h on = on refl h
-when_some false o h on = cc
+use Rattle.sheet.specs.Sheets.{and_then}
 
 -- Where what comes next has no fault, what was before has none.
 pub ok_parts : {A B Z : Type 0} (r : Result A Fault) (k : A → Result B Fault) {y : B} → and_then r k ≡ Ok y → ((x : A) → r ≡ Ok x → k x ≡ Ok y → Z) → Z
 ok_parts (Ok x) k h on = on x refl h
-ok_parts (Err f) k h on = err_ok h
-
--- Where a value or a fault is no fault, it is the value.
-pub ok_some : {A : Type 0} (o : Option A) (f : Fault) {x : A} → ok_or o f ≡ Ok x → o ≡ Some x
-ok_some None f h = err_ok h
-ok_some (Some x) f h = cc
-
--- Where a value or a fault is a fault, it is that one.
-pub err_none : {A : Type 0} (o : Option A) (g : Fault) {f : Fault} → ok_or o g ≡ Err f → g ≡ f
-err_none None g h = cc
-err_none (Some x) g h = err_ok (sym h)
-
--- Where there is no fault unless there is one, there is none.
-pub ok_unless : {A Z : Type 0} (o : Option Fault) (r : Result A Fault) {x : A} → unless o r ≡ Ok x → (o ≡ None → r ≡ Ok x → Z) → Z
-ok_unless None r h on = on refl h
-ok_unless (Some f) r h on = err_ok h
-
--- Where there is no fault under a condition, the condition holds.
-pub ok_when : {A Z : Type 0} (b : Bool) (r : Result A Fault) (f : Fault) {x : A} → cond b r (Err f) ≡ Ok x → (b ≡ true → r ≡ Ok x → Z) → Z
-ok_when true r f h on = on refl h
-ok_when false r f h on = err_ok h
+ok_parts (Err f) k h on = cc

@@ -1,7 +1,6 @@
 -- The items of a proper sheet may follow one another, and are read back.
-use Rattle.std.proofs.Common.{◌≡◌, ℕ, ◌+◌, ◌<◌, ◌≤◌, true, nat_lt, nat_le, List, [], ◌∷◌, ◌++◌, length, None, Ok, Option, Result, sym, ap, ◌∙◌, arith}
-use Rattle.std.proofs.lemmas.List.{append-nil, append_assoc, length_push, get_or_push}
-use Rattle.std.proofs.lemmas.Bool.{and_parts, leb-true, ltb-true}
+use Rattle.std.proofs.Common.{◌≡◌, ℕ, ◌+◌, ◌≤◌, true, List, [], ◌∷◌, ◌++◌, length, None, Ok, Option, ap, arith, rules}
+use Rattle.std.proofs.lemmas.List.{append_assoc, length_push, get_or_push}
 use Rattle.std.proofs.lemmas.Bool.Decides.{nat_tests}
 use Rattle.fault.specs.declared.Fault.{Fault}
 use Rattle.theory.specs.Lists.{All}
@@ -9,7 +8,7 @@ use Rattle.theory.specs.Tasks.{Task}
 use Rattle.tasks.specs.Levels.{ascending, top, level_fault}
 use Rattle.tasks.specs.Ranges.{task_refusal}
 use Rattle.tasks.specs.Tables.{task_fault}
-use Rattle.sheet.specs.Sheets.{and_then, unless, item_at, body, start_fault}
+use Rattle.sheet.specs.Sheets.{body, start_fault}
 use Rattle.sheet.specs.Written.{each_text}
 use Rattle.sheet.proofs.Back.{Back}
 
@@ -26,42 +25,23 @@ Follow check base done (x ∷ xs) = (check (base + (length done + 1)) done x ≡
 module _ {X : Type 0} (form : List ℕ → Option X) (text : X → List ℕ) (check : ℕ → List X → X → Option Fault) (base : ℕ) where
   -- The texts of such items are read back.
   pub body_back : (xs done : List X) (rest : List ℕ) → All (Back form text) xs → Follow check base done xs → body form check base (length xs) done (each_text text xs ++ rest) ≡ Ok (done ++ xs, rest)
-  body_back [] done rest b f = ap (λ l. Ok (l, rest)) (sym (append-nil done))
-  body_back (x ∷ xs) done rest b f =
-      let row = length done + 1 in
-      let more : X × List ℕ → Result (List X × List ℕ) Fault = λ p. unless (check (base + row) done p.0) (body form check base (length xs) (done ++ (p.0 ∷ [])) p.1) in
-      ap (λ t. and_then (item_at form (base + row) row t) more) (append_assoc (text x) (each_text text xs) rest) ∙ ap (λ r. and_then r more) (b.0 (base + row) row (each_text text xs ++ rest)) ∙ ap (λ o. unless o (body form check base (length xs) (done ++ (x ∷ [])) (each_text text xs ++ rest))) f.0 ∙ body_back xs (done ++ (x ∷ [])) rest b.1 f.1 ∙ ap (λ l. Ok (l, rest)) (append_assoc done (x ∷ []) xs)
-
--- The last level of a list is the one that came last.
-pub top_push : (done : List ℕ) (x : ℕ) → top (done ++ (x ∷ [])) ≡ x
-top_push done x = get_or_push done x 0 _ (omega (arith, length_push done x))
+  body_back [] done rest b f = search rules
+  body_back (x ∷ xs) done rest b f = rw (append_assoc (text x) (each_text text xs) rest) (rw (b.0 (base + (length done + 1)) (length done + 1) (each_text text xs ++ rest)) (rw f.0 (rw (body_back xs (done ++ (x ∷ [])) rest b.1 f.1) (ap (λ l. Ok (l, rest)) (append_assoc done (x ∷ []) xs)))))
 
 -- Levels that ascend.
 pub levels_follow : (base : ℕ) (xs done : List ℕ) → ascending (top done) xs ≡ true → length done + length xs ≤ 64 → Follow level_fault base done xs
 levels_follow base [] done h few = tt
-levels_follow base (x ∷ xs) done h few =
-    let a = and_parts (nat_lt (top done) x) _ h in
-    let b = and_parts (nat_le x 1000) (ascending x xs) a.1 in
-    let room : length done < 64 = omega arith in
-    let above = ltb-true _ _ a.0 in
-    let low = leb-true _ _ b.0 in
-    let next : ascending (top (done ++ (x ∷ []))) xs ≡ true = ap (λ n. ascending n xs) (top_push done x) ∙ b.1 in
-    (grind (arith, nat_tests), levels_follow base xs (done ++ (x ∷ [])) next (omega (arith, length_push done x)))
+levels_follow base (x ∷ xs) done h few = (grind (arith, nat_tests), levels_follow base xs (done ++ (x ∷ [])) (grind (arith, nat_tests, get_or_push, length_push)) (omega (arith, length_push done x)))
 
 -- They are at most 1,000.
 pub levels_low : (low : ℕ) (xs : List ℕ) → ascending low xs ≡ true → All (λ x. x ≤ 1000) xs
 levels_low low [] h = tt
-levels_low low (x ∷ xs) h =
-    let b = and_parts (nat_le x 1000) (ascending x xs) (and_parts (nat_lt low x) _ h).1 in
-    (leb-true x 1000 b.0, levels_low x xs b.1)
+levels_low low (x ∷ xs) h = (grind (arith, nat_tests), levels_low x xs (grind (arith, nat_tests)))
 
 -- Tasks in their ranges.
 pub tasks_follow : (base : ℕ) (xs done : List Task) → All (λ t. task_refusal t.period t.deadline t.work ≡ None) xs → length done + length xs ≤ 32 → Follow task_fault base done xs
 tasks_follow base [] done h few = tt
-tasks_follow base (x ∷ xs) done h few =
-    let room : length done < 32 = omega arith in
-    let fine = h.0 in
-    (grind (arith, nat_tests), tasks_follow base xs (done ++ (x ∷ [])) h.1 (omega (arith, length_push done x)))
+tasks_follow base (x ∷ xs) done h few = (grind (arith, nat_tests), tasks_follow base xs (done ++ (x ∷ [])) h.1 (omega (arith, length_push done x)))
 
 -- The numbers of a task are below the highest that a sheet may have.
 pub record Low (t : Task) : Type 0 where
@@ -71,9 +51,9 @@ pub record Low (t : Task) : Type 0 where
 
 -- So are those of a task in its ranges.
 pub task_low : (t : Task) → task_refusal t.period t.deadline t.work ≡ None → Low t
-task_low t h = record { period = grind (arith, nat_tests); deadline = grind (arith, nat_tests); work = grind (arith, nat_tests) }
+task_low t h = grind (arith, nat_tests)
 
 -- First releases in their range.
 pub starts_follow : (base : ℕ) (xs done : List ℕ) → All (λ s. s ≤ 65535) xs → Follow start_fault base done xs
 starts_follow base [] done h = tt
-starts_follow base (x ∷ xs) done h = let low = h.0 in (grind (arith, nat_tests), starts_follow base xs (done ++ (x ∷ [])) h.1)
+starts_follow base (x ∷ xs) done h = (grind (arith, nat_tests), starts_follow base xs (done ++ (x ∷ [])) h.1)

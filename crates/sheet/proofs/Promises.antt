@@ -1,11 +1,10 @@
 -- The text that answers a sheet keeps the promise.
-use Rattle.std.proofs.Common.{◌≡◌, ℕ, false, ◌⊎◌, List, Ok, Err, sym, refl, ap, ◌∙◌, subst, inl, inr, arith}
-use Rattle.std.proofs.lemmas.Bool.{cond-false}
+use Rattle.std.proofs.Common.{◌≡◌, ℕ, false, ◌⊎◌, List, Ok, Err, sym, refl, ap, subst, inl, inr, arith}
 use Rattle.std.proofs.lemmas.Bool.Decides.{nat_tests}
 use Rattle.fault.specs.declared.Fault.{Fault}
 use Rattle.fault.specs.declared.Refusal.TheVariants.{NoLevelPasses}
 use Rattle.fault.specs.Faults.{fault_at}
-use Rattle.theory.specs.Test.{lowest, first_failing}
+use Rattle.theory.specs.Test.{first_failing}
 use Rattle.tasks.specs.Admission.{some_empty, admission, LowestInTime, EveryLevelLate}
 use Rattle.tasks.specs.Levels.{top}
 use Rattle.sheet.specs.Listing.{listing_text, refusal_text}
@@ -14,13 +13,12 @@ use Rattle.sheet.specs.Sheets.{Contents, read_sheet}
 use Rattle.sheet.specs.Written.{Proper}
 use Rattle.sheet.proofs.Converse.{sheet_exact}
 use Rattle.sheet.proofs.Faults.{fault_low}
-use Rattle.sheet.proofs.Parts.{err_ok, err_none}
 use Rattle.sheet.proofs.Whole.{sheet_back}
 
 -- The line of the fault in bytes that are not read answers them.
 pub answers_fault : (bytes : List ℕ) (f : Fault) → read_sheet bytes ≡ Err f → AnswersSheet bytes (refusal_text f)
 answers_fault bytes f h = record {
-  of_sheet = λ c p e. err_ok (sym h ∙ ap read_sheet e ∙ sheet_back c p);
+  of_sheet = λ c p e. let back = sheet_back c p in let same = ap read_sheet e in cc;
   of_other = λ none. (f, h, fault_low bytes h, refl);
 }
 
@@ -43,5 +41,5 @@ module _ (bytes : List ℕ) (c : Contents) (read : read_sheet bytes ≡ Ok c) wh
   pub answers_late : (f : Fault) → admission c.levels c.tasks ≡ Err f → (f.refusal ≡ NoLevelPasses → EveryLevelLate c.levels c.tasks) → AnswersSheet bytes (refusal_text f)
   answers_late f h late = answers_read (refusal_text f) (λ p.
       let some : some_empty c.levels c.tasks ≡ false = grind (arith, nat_tests) in
-      let is = err_none (lowest c.levels c.tasks) (fault_at NoLevelPasses 0 (first_failing (top c.levels) c.tasks)) (sym (cond-false (some_empty c.levels c.tasks) _ _ some) ∙ h) in
+      let is : fault_at NoLevelPasses 0 (first_failing (top c.levels) c.tasks) ≡ f = grind arith in
       inr (late (sym (ap (λ f. f.refusal) is)), sym (ap refusal_text is)))
