@@ -27,7 +27,11 @@ fn try_ask<U: SpeedUnit>(unit: &mut U, level: u32) -> bool
     ensures does { WithRaise (U.nature unit.old) (λ lag. (if result then ask_with lag level (U.meaning unit.old) else U.meaning unit.old)) (U.meaning unit.new) }
     ensures fixed { U.nature unit.new ≡ U.nature unit.old }
 {
-    ready(unit) && unit.takes(level) && unit.ask(level).is_ok()
+    let taken = ready(unit) && unit.takes(level);
+    if taken {
+        unit.ask(level).unwrap();
+    }
+    taken
 }
 
 // Rests for some ticks, if the unit would take that.
