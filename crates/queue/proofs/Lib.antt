@@ -1,3 +1,2 @@
-mod Orders
 mod Places
 mod Sorting

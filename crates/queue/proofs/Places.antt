@@ -1,12 +1,11 @@
--- Where a new entry goes among those that stand, and how it is written there.
-use Rattle.std.proofs.Common.{◌≡◌, ℕ, ◌+◌, ◌-◌, ◌<◌, ◌≤◌, Bool, true, false, cond, not, List, [], ◌∷◌, length, take, drop, set, Option, refl, ap, ◌∙◌, append_assoc, one-add, arith}
+-- Where a new entry goes among those that stand, and how it is turned there.
+use Rattle.std.proofs.Common.{◌≡◌, ℕ, ◌+◌, ◌-◌, ◌<◌, ◌≤◌, Bool, true, false, cond, not, List, [], ◌∷◌, ◌++◌, length, take, drop, set, Option, refl, sym, ap, ◌∙◌, one-add, arith}
+use borrow.Rule.Slice.PartMut.{put_mid}
 use Rattle.std.proofs.lemmas.Grind.{common_steps}
-use Rattle.std.proofs.lemmas.List.{length-drop, length-take-le, take-take, take_more_set, set-append_left}
-use Rattle.std.proofs.lemmas.List.Edits.{take-paste}
+use Rattle.std.proofs.lemmas.List.{take-take, take-set-le, take_more_set, drop-append-le, drop_at, take_at, length-take, length-take-le, length-drop, drop-set-lt, length-set, length_push}
 use Rattle.std.proofs.lemmas.List.Sums.{prefix_len-le-length}
-use Rattle.std.proofs.lemmas.Slice.{between_is}
-use Rattle.std.proofs.Math.Seq.{take-set-lt}
-use Rattle.std.specs.List.{copy_within, insert, position, position_or_len}
+use Rattle.std.proofs.lemmas.Slice.{between_is, take-put_mid, drop-put_mid}
+use Rattle.std.specs.List.{between, insert, position, position_or_len}
 use Rattle.std.specs.Option.{unwrap_or}
 use Rattle.queue.specs.Order.{ordered}
 
@@ -28,17 +27,30 @@ ordered_found {E} before x xs found n is at =
     let place : unwrap_or (position p xs) (length xs) ≡ position_or_len p xs = grind (arith, common_steps, prefix_len-le-length (λ y. not (p y)) xs) in
     ap (λ k. insert xs k x) (at ∙ ap (λ o. unwrap_or o (length xs)) is ∙ place) ∙ ordered_at before x xs
 
--- With the entries from a place on moved up by one, and x written there, x is in that place among the first n.
-pub put_in : {E : Type 0} (xs : List E) (n at : ℕ) (x : E) (ys : List E) → n < length xs → at ≤ n → ys ≡ copy_within xs at n (at + 1) → take (n + 1) (set ys at x) ≡ insert (take n xs) at x
-put_in xs n at x ys lt le is =
-    let kept = take (n - at) (drop at xs) in
-    let long : at + 1 + (n - at) ≡ n + 1 = omega arith in
-    let moved = take-paste xs (at + 1) (drop at xs) (n - at) (omega arith) (omega (arith, length-drop at xs)) in
-    let written = take-set-lt (n + 1) ys at x (omega arith) in
-    let apart = set-append_left (take (at + 1) xs) kept at x (omega (arith, length-take-le (at + 1) xs)) in
-    let ahead = take-set-lt (at + 1) xs at x (omega arith) in
-    let here = take_more_set xs at x (omega arith) in
-    let joined = append_assoc (take at xs) (x ∷ []) kept in
-    let front = take-take at n xs le in
-    let rest = between_is xs at n in
-    cc
+module _ {E : Type 0} (xs : List E) (n at : ℕ) (x : E) (ys : List E) (lt : n < length xs) (le : at ≤ n) where
+  -- The entries from the place on, with x behind them.
+  abbrev part : List E
+  part = between at (n + 1) (set xs n x)
+
+  -- Where x is turned to the front of that part, it is in its place among the first n.
+  pub turned_in : ys ≡ drop (length part - 1) part ++ take (length part - 1) part → take (n + 1) (put_mid at (n + 1 - at) (set xs n x) ys) ≡ insert (take n xs) at x
+  turned_in is =
+      let kept = drop at (take n xs) in
+      let long : length (take n xs) ≡ n = length-take-le n xs (omega arith) in
+      let q : part ≡ kept ++ x ∷ [] = between_is (set xs n x) at (n + 1) ∙ ap (drop at) (take_more_set xs n x lt) ∙ drop-append-le at (take n xs) (x ∷ []) (omega arith) in
+      let k : length kept ≡ length part - 1 = omega (arith, ap length q ∙ length_push kept x) in
+      let behind = drop_at kept (x ∷ []) (length part - 1) k in
+      let ahead = take_at kept (x ∷ []) (length part - 1) k in
+      let r : ys ≡ x ∷ kept = cc in
+      let m : n + 1 ≡ at + length ys = omega (arith, ap length r, length-drop at (take n xs)) in
+      let front = take-put_mid at (n + 1 - at) (set xs n x) ys (n + 1) m (omega (arith, length-set xs n x)) in
+      let same : take at (set xs n x) ≡ take at (take n xs) = take-set-le at xs n x le ∙ sym (take-take at n xs le) in
+      cc
+
+  -- What lies past that part stays as it was.
+  pub turned_past : length ys ≡ length part → drop (n + 1) (put_mid at (n + 1 - at) (set xs n x) ys) ≡ drop (n + 1) xs
+  turned_past long =
+      let same = length-set xs n x in
+      let front = length-take (n + 1 - at) (drop at (set xs n x)) in
+      let rest = length-drop at (set xs n x) in
+      drop-put_mid at (n + 1 - at) (set xs n x) ys (n + 1) (omega arith) (omega arith) (omega arith) ∙ drop-set-lt (n + 1) xs n x (omega arith)

@@ -2,20 +2,14 @@
 use Rattle.std.proofs.Common.{◌≡◌, Bool, true, List, [], ◌∷◌, refl, arith}
 use Rattle.std.proofs.lemmas.List.Sorted.{IsPermutation-refl, IsPermutation-trans, IsPermutation-cons, IsPermutation-swap}
 use Rattle.std.proofs.lemmas.Bool.{cond_both, and_from}
-use Rattle.std.specs.Cmp.{IsTotalOrder}
-use Rattle.std.specs.declared.cmp.Ordering.{Ordering}
 use Rattle.std.specs.List.Sorted.{IsPermutation}
-use Rattle.queue.specs.Order.{upto, ordered, leads, sorted}
-use Rattle.queue.proofs.Orders.{upto_total, upto_trans}
+use Rattle.queue.specs.Order.{Order, ordered, leads, sorted}
 
-module _ {E : Type 0} (cmp : E → E → Ordering) (o : IsTotalOrder cmp) where
-  abbrev before : E → E → Bool
-  before = upto cmp
-
+module _ {E : Type 0} (before : E → E → Bool) (o : Order before) where
   -- What stands before y's list and before y stands before that list.
   leads_on : (x y : E) (ys : List E) → before x y ≡ true → leads before y ys ≡ true → leads before x ys ≡ true
   leads_on x y [] h l = refl
-  leads_on x y (z ∷ zs) h l = grind (arith, upto_trans o x y z, leads_on x y zs)
+  leads_on x y (z ∷ zs) h l = grind (arith, o.trans x y z, leads_on x y zs)
 
   -- What stands before a list and before x stands before the list with x in its place.
   leads_ordered : (y x : E) (xs : List E) → before y x ≡ true → leads before y xs ≡ true → leads before y (ordered before x xs) ≡ true
@@ -25,7 +19,7 @@ module _ {E : Type 0} (cmp : E → E → Ordering) (o : IsTotalOrder cmp) where
   -- A sorted list with x in its place is sorted.
   pub sorted_ordered : (x : E) (xs : List E) → sorted before xs ≡ true → sorted before (ordered before x xs) ≡ true
   sorted_ordered x [] s = refl
-  sorted_ordered x (y ∷ ys) s = grind (arith, upto_total o x y, leads_on x y ys, leads_ordered y x ys, sorted_ordered x ys)
+  sorted_ordered x (y ∷ ys) s = grind (arith, o.total x y, leads_on x y ys, leads_ordered y x ys, sorted_ordered x ys)
 
 -- x in its place is x and the others, in another order.
 pub shuffled_ordered : {E : Type 0} (before : E → E → Bool) (x : E) (xs : List E) → IsPermutation (x ∷ xs) (ordered before x xs)

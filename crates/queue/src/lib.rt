@@ -2,20 +2,42 @@
 // entries, first to come out first; where `len` is more than there are slots, all of them do.
 #![tactic(auto)]
 
-ghost use Rattle.std.specs.Prelude.{◌≡◌, ◌+◌, ◌<◌, ◌≤◌, true, ◌∷◌, length, take, drop, OnOk};
+ghost use Rattle.std.specs.Prelude.{◌≡◌, ◌+◌, ◌<◌, ◌≤◌, Bool, true, ◌∷◌, length, take, drop, OnOk};
 ghost use Rattle.queue.specs.Entries.{sooner};
 ghost use Rattle.queue.specs.Order.{Order, upto, ordered, sorted};
 ghost use Rattle.queue.specs.Steps.{Puts, Takes, first};
 ghost use Rattle.std.specs.List.{insert};
 ghost use Rattle.std.specs.List.Sorted.{IsPermutation};
+ghost use Rattle.std.proofs.Common.{rules};
 
 use fault::{Fault, Refusal};
+
+// What can stand in a queue: anything that some total order ranks. It may have an `Ord` of another order, or none.
+pub trait Ranked {
+    // Whether the first entry may stand before the second.
+    ghost before: { Self → Self → Bool };
+
+    fn upto(self, other: Self) -> bool
+        ensures { result ≡ before self other };
+
+    ghost order: { Order before };
+}
 
 // A row that waits until the tick `key`, or by its priority alone, with 0 as its key. Entries are ordered by key, and then by row.
 #[derive(Clone, Copy, PartialEq, Eq, PartialOrd, Ord, Debug)]
 pub struct Entry {
     pub key: u32,
     pub row: u32,
+}
+
+impl Ranked for Entry {
+    ghost before = { sooner };
+
+    ghost order = { Prim.search rules };
+
+    fn upto(self, other: Entry) -> bool {
+        self <= other
+    }
 }
 
 // A theorem: what entries are compared by is the order by key and then by row, which is total.
@@ -32,33 +54,32 @@ fn contents<E>(slots: &[E], len: usize) -> &[E]
 }
 
 // How many entries at the front stay before `new`.
-fn place<E: Ord + Copy>(entries: &[E], new: E) -> usize
+fn place<E: Ranked + Copy>(entries: &[E], new: E) -> usize
     ensures within { result ≤ length entries.now }
-    ensures cuts { insert entries.now result new ≡ ordered (upto E.cmp) new entries.now }
+    ensures cuts { insert entries.now result new ≡ ordered E.before new entries.now }
 {
     entries
         .iter()
-        .position(|next| *next > new)
+        .position(|next| !next.upto(new))
         .unwrap_or(entries.len())
 }
 
-// Moves the entries from the place `at` on up by one, and writes `new` there.
-#[tactic(auto, using(crate::proofs::Places::put_in))]
+// Writes `new` behind the first `n` entries, and turns it to the place `at` among them.
 fn insert<E: Copy>(slots: &mut [E], n: usize, at: usize, new: E)
     requires room { n < length slots.old }
     requires among { at ≤ n }
     ensures front { take (n + 1) slots.new ≡ insert (take n slots.old) at new }
     ensures spare { drop (n + 1) slots.new ≡ drop (n + 1) slots.old }
 {
-    slots.copy_within(at..n, at + 1);
-    slots[at] = new;
+    slots[n] = new;
+    slots[at..n + 1].rotate_right(1);
 }
 
 // Puts `new` after every entry that may stand before it, and before the others. Where every slot is taken it is refused, and nothing changes.
-pub fn put<E: Ord + Copy>(slots: &mut [E], len: &mut usize, new: E) -> Result<(), Fault>
-    ensures puts { Puts (upto E.cmp) slots.old len.old new result slots.new len.new }
+pub fn put<E: Ranked + Copy>(slots: &mut [E], len: &mut usize, new: E) -> Result<(), Fault>
+    ensures puts { Puts E.before slots.old len.old new result slots.new len.new }
     ensures spare { drop len.new slots.new ≡ drop len.new slots.old }
-    ensures sorted { sorted (upto E.cmp) (take len.old slots.old) ≡ true → sorted (upto E.cmp) (take len.new slots.new) ≡ true }
+    ensures sorted { sorted E.before (take len.old slots.old) ≡ true → sorted E.before (take len.new slots.new) ≡ true }
     ensures shuffled { OnOk result (IsPermutation (new ∷ take len.old slots.old) (take len.new slots.new)) }
     ensures within { len.old ≤ length slots.old → len.new ≤ length slots.old }
 {
@@ -73,10 +94,10 @@ pub fn put<E: Ord + Copy>(slots: &mut [E], len: &mut usize, new: E) -> Result<()
 }
 
 // Takes out the first entry. Where there is none, nothing changes.
-pub fn take_head<E: Ord + Copy>(slots: &mut [E], len: &mut usize) -> Option<E>
+pub fn take_head<E: Ranked + Copy>(slots: &mut [E], len: &mut usize) -> Option<E>
     ensures takes { Takes slots.old len.old result slots.new len.new }
     ensures spare { drop len.old slots.new ≡ drop len.old slots.old }
-    ensures sorted { sorted (upto E.cmp) (take len.old slots.old) ≡ true → sorted (upto E.cmp) (take len.new slots.new) ≡ true }
+    ensures sorted { sorted E.before (take len.old slots.old) ≡ true → sorted E.before (take len.new slots.new) ≡ true }
     ensures within { len.new ≤ len.old }
 {
     let first = head(slots, *len)?;

@@ -4,11 +4,24 @@
 ghost use Rattle.std.specs.Prelude.{◌≡◌};
 ghost use Rattle.queue.specs.Order.{Order, upto};
 ghost use Rattle.queue_examples.specs.Rows.{smaller};
+ghost use Rattle.std.proofs.Common.{rules};
+
+use queue::Ranked;
 
 // A row by itself: the smallest number is first.
 #[derive(Clone, Copy, PartialEq, Eq, PartialOrd, Ord, Debug)]
 pub struct Row {
     pub number: u8,
+}
+
+impl Ranked for Row {
+    ghost before = { smaller };
+
+    ghost order = { Prim.search rules };
+
+    fn upto(self, other: Row) -> bool {
+        self <= other
+    }
 }
 
 // A theorem: what rows are compared by is the order by number, which is total.
