@@ -125,7 +125,8 @@ impl Ramp {
         }
     }
 
-    // Moves by an event. A refusal leaves the ramp as it was.
+    // Moves by an event. A refusal leaves the ramp as it was. Each caller has one event, so that little of this is left where it stands in the caller.
+    #[inline(always)]
     fn on(&mut self, event: Event) -> Result<(), Fault>
         ensures does { CallIs (ramp_refusal (listed self.old.levels) event (ramp_meaning self.old)) (ramp_after (listed self.old.levels) event (ramp_meaning self.old)) (ramp_meaning self.old) result (ramp_meaning self.new) }
         ensures fixed { ramp_nature self.new ≡ ramp_nature self.old }
