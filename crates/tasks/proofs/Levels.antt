@@ -1,6 +1,6 @@
 -- One more level at the end of a list.
 use Rattle.std.proofs.Common.{◌≡◌, ℕ, zero, suc, ◌-◌, ◌<◌, ◌≤◌, true, nat_lt, nat_le, List, [], ◌∷◌, ◌++◌, length, get_or, refl, ap, ◌∙◌, arith}
-use Rattle.std.proofs.lemmas.Bool.{and_parts, and_from, lt-ltb, le-leb, ltb-true}
+use Rattle.std.proofs.lemmas.Bool.{and_parts, and_from, lt-ltb, le-leb, ltb-true, leb-true}
 use Rattle.tasks.specs.Levels.{ascending, top}
 
 -- The last level, or `low` where there is none.
@@ -29,14 +29,17 @@ more low (y ∷ ys) x h lt le =
 pub ascending_more : (xs : List ℕ) (x : ℕ) → ascending 0 xs ≡ true → top xs < x → x ≤ 1000 → ascending 0 (xs ++ (x ∷ [])) ≡ true
 ascending_more xs x h lt le = more 0 xs x h (omega (arith, top_is xs)) le
 
--- Each level is above `low`.
-above : (low : ℕ) (xs : List ℕ) (k : ℕ) → ascending low xs ≡ true → k < length xs → low < get_or xs k 0
-above low [] k h lt = absurd (omega arith)
-above low (x ∷ xs) zero h lt = ltb-true _ _ (and_parts (nat_lt low x) _ h).0
-above low (x ∷ xs) (suc k) h lt =
+-- Each level is above `low`, and at most 1,000.
+in_range : (low : ℕ) (xs : List ℕ) (k : ℕ) → ascending low xs ≡ true → k < length xs → (low < get_or xs k 0) × (get_or xs k 0 ≤ 1000)
+in_range low [] k h lt = absurd (omega arith)
+in_range low (x ∷ xs) zero h lt =
     let a = and_parts (nat_lt low x) _ h in
-    omega (arith, ltb-true _ _ a.0, above x xs k (and_parts (nat_le x 1000) _ a.1).1 (omega arith))
+    (ltb-true _ _ a.0, leb-true _ _ (and_parts (nat_le x 1000) _ a.1).0)
+in_range low (x ∷ xs) (suc k) h lt =
+    let a = and_parts (nat_lt low x) _ h in
+    let rest = in_range x xs k (and_parts (nat_le x 1000) _ a.1).1 (omega arith) in
+    (omega (arith, ltb-true _ _ a.0), rest.1)
 
--- Each listed level is at least 1.
-pub level_at : (xs : List ℕ) (k : ℕ) → ascending 0 xs ≡ true → k < length xs → 1 ≤ get_or xs k 0
-level_at xs k h lt = above 0 xs k h lt
+-- Each listed level is from 1 to 1,000.
+pub level_at : (xs : List ℕ) (k : ℕ) → ascending 0 xs ≡ true → k < length xs → (1 ≤ get_or xs k 0) × (get_or xs k 0 ≤ 1000)
+level_at xs k h lt = in_range 0 xs k h lt

@@ -17,7 +17,7 @@ rows-init c = rw (c.clear.ensures, c.new-loads.ensures) (no_rows _ _)
 -- a listed level is at least 1
 some : (c : After-deref-task-items) → 1 ≤ get_or c.levels-level-items.result.now c.levels.level-index 0
 some c =
-    level_at c.levels-level-items.result.now c.levels.level-index (ap (ascending 0) c.levels-level-items.ensures ∙ c.args.self.now.levels.rising) c.levels-test.true
+    (level_at c.levels-level-items.result.now c.levels.level-index (ap (ascending 0) c.levels-level-items.ensures ∙ c.args.self.now.levels.rising) c.levels-test.true).0
 
 -- the row of the turn
 row : (c : After-load_at-load) → (c.rows.task-index < length (tasks_of c.args.self.now)) × (get_or (tasks_of c.args.self.now) c.rows.task-index no_task ≡ task_of c.task-item.result)
