@@ -40,7 +40,14 @@ fn count_to(lines: &mut Lines, word: &[u8], most: u32) -> Result<u32, Fault>
     Ok(count)
 }
 
-// The counts. First releases are for each task or for none.
+// Whether there are first releases for each task, or none.
+fn each_or_none(tasks: u32, starts: u32) -> bool
+    ensures { result ≡ each_or_none tasks starts }
+{
+    starts == 0 || starts == tasks
+}
+
+// The counts.
 pub(crate) fn read_counts(lines: &mut Lines) -> Result<Counts, Fault>
     requires first { lines.old.line ≡ 0 }
     ensures value { MatchResult result (λ n. counts lines.old.text.now ≡ Ok (n, lines.new.text.now)) (λ f. counts lines.old.text.now ≡ Err f) }
@@ -51,7 +58,7 @@ pub(crate) fn read_counts(lines: &mut Lines) -> Result<Counts, Fault>
     let levels = count_to(lines, b"levels", 64)?;
     let tasks = count_to(lines, b"tasks", 32)?;
     let starts = read_count(lines, b"starts")?;
-    if starts != 0 && starts != tasks {
+    if !each_or_none(tasks, starts) {
         return Err(Fault::new(Refusal::BadCount, lines.line, 0));
     }
     Ok(Counts {

@@ -1,5 +1,4 @@
 use Rattle.std.proofs.Common.{◌≡◌, ◌+◌, true, false, arith, rules}
-use Rattle.std.proofs.lemmas.Bool.Decides.{nat_tests}
 use Rattle.sheet.specs.Sheets.{each_or_none}
 use Rattle.sheet.proofs.Counting.{tasks_fault, starts_fault, starts_off, counts_are}
 use Rattle.sheet.proofs.counts.read_counts.Goals as goal
@@ -14,9 +13,9 @@ returns-in_err-starts-clause-value c =
     let e = starts_fault c.args.lines.now.text.now (c.args.lines.now.line + 1) (c.count_to.new.lines.line + 1) (omega arith) (omega arith) c.in_ok-levels.ensures.value (c.count_to-2.new.lines.line + 1) (omega arith) c.in_ok-tasks.ensures.value c.in_err-starts.ensures.value in
     search rules
 
-pub returns-then-starts-tasks-clause-value : goal.returns-then-starts-tasks-clause-value
-returns-then-starts-tasks-clause-value c =
-    let off : each_or_none c.in_ok-tasks.tasks c.in_ok-starts.starts ≡ false = grind (arith, nat_tests) in
+pub returns-then-not-each_or_none-clause-value : goal.returns-then-not-each_or_none-clause-value
+returns-then-not-each_or_none-clause-value c =
+    let off : each_or_none c.in_ok-tasks.tasks c.in_ok-starts.starts ≡ false = search rules in
     let e = starts_off c.args.lines.now.text.now (c.args.lines.now.line + 1) (c.count_to.new.lines.line + 1) (omega arith) (omega arith) c.in_ok-levels.ensures.value (c.count_to-2.new.lines.line + 1) (omega arith) c.in_ok-tasks.ensures.value c.in_ok-starts.ensures.value off c.read_count.new.lines.line (omega arith) in
     search rules
 
