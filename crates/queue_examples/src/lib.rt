@@ -1,8 +1,9 @@
-// Examples of the queue, at rows by their number and at releases by tick and then row.
+// Examples of the queue, at rows by their number, at releases by tick and then row, and at readings of a load.
 #![tactic(auto)]
 
 ghost use Rattle.std.specs.Prelude.{◌≡◌};
 ghost use Rattle.queue.specs.Order.{Order, upto};
+ghost use Rattle.queue_examples.specs.Readings.{heavier};
 ghost use Rattle.queue_examples.specs.Rows.{smaller};
 ghost use Rattle.std.proofs.Common.{rules};
 
@@ -29,6 +30,22 @@ pub fn rows_are_ordered()
     ensures by_number { upto ⟦<Row as Ord>⟧.cmp ≡ smaller }
     ensures total { Order smaller }
 {}
+
+// A reading of a load: the heaviest is first. Readings have no `Ord`, and a queue asks for none.
+#[derive(Clone, Copy, PartialEq, Eq, Debug)]
+pub struct Reading {
+    pub load: u32,
+}
+
+impl Ranked for Reading {
+    ghost before = { heavier };
+
+    ghost order = { Prim.search rules };
+
+    fn upto(self, other: Reading) -> bool {
+        other.load <= self.load
+    }
+}
 
 #[cfg(test)]
 mod tests {
@@ -58,6 +75,22 @@ mod tests {
         assert_eq!(rt; take_head(&mut slots, &mut len), Some(row(5)));
         assert_eq!(rt; take_head(&mut slots, &mut len), Some(row(7)));
         assert_eq!(rt; len, 0);
+        Ok(())
+    }
+
+    #[test]
+    fn readings_come_out_by_weight(rt: HostRuntime) -> Result<(), Fail> {
+        let mut slots = [Reading { load: 0 }; 3];
+        let mut len = 0;
+        put(&mut slots, &mut len, Reading { load: 40 })?;
+        put(&mut slots, &mut len, Reading { load: 900 })?;
+        put(&mut slots, &mut len, Reading { load: 7 })?;
+        assert_eq!(rt;
+            take_head(&mut slots, &mut len),
+            Some(Reading { load: 900 })
+        );
+        assert_eq!(rt; take_head(&mut slots, &mut len), Some(Reading { load: 40 }));
+        assert_eq!(rt; take_head(&mut slots, &mut len), Some(Reading { load: 7 }));
         Ok(())
     }
 
