@@ -2,16 +2,39 @@
 // one line that says what is wrong and where.
 #![tactic(auto)]
 
-use arrayvec::ArrayVec;
+ghost use Rattle.std.specs.Prelude.{◌≤◌, length, IfOk};
+
 use sheet::{MOST_READ, answer};
 use std::io;
 use std::io::Read;
 
+// The most bytes that are read, each with a place of its own, so that reading asks for no memory.
+const MOST: usize = MOST_READ as usize;
+
+// Fills the buffer from standard input, as far as there is input, and says how much of it is filled.
+fn fill(rt: &HostRuntime, bytes: &mut [u8]) -> io::Result<usize>
+    ensures { IfOk result (λ n. n ≤ length bytes.old) }
+{
+    let mut input = rt.stdin();
+    let mut filled = 0usize;
+    for _ in 0..MOST {
+        if filled >= bytes.len() {
+            break;
+        }
+        let count = input.read(&mut bytes[filled..])?;
+        if count == 0 {
+            break;
+        }
+        filled += count;
+    }
+    Ok(filled)
+}
+
 fn run(rt: &HostRuntime) -> anyhow::Result<()> {
-    // There is a place for every byte that is read, so that reading asks for no memory.
-    let mut bytes = ArrayVec::<u8, 4097>::new();
-    io::copy(&mut rt.stdin().take(MOST_READ), &mut bytes)?;
-    rt.print(answer(rt.alloc(), &bytes)?)?;
+    let mut bytes = [0u8; MOST];
+    let filled = fill(rt, &mut bytes)?;
+    let text = answer(rt.alloc(), &bytes[..filled])?;
+    rt.print(text)?;
     Ok(())
 }
 
